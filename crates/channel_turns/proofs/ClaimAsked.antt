@@ -32,13 +32,14 @@ use Rattle.channel_turns.specs.ChannelTurns.{WaitsToWrite}
 use Rattle.channel_turns.specs.ClaimTurns.{ClaimsNow, IsOfClaim, writing}
 use Rattle.running_store.specs.RunningState.{IsRunning}
 use Rattle.running_store.specs.StoreView.{AreResolved, rows_of, state_of, StoreView}
-use Rattle.running_store.specs.Steps.{logged_on, OnlyRow, with_row_at}
+use Rattle.running_store.specs.Steps.{OnlyRow, with_row_at}
 use Rattle.running_store.proofs.Entered.{disk_same_then, entered_then}
 use Rattle.store_model.proofs.Resolved.{resolved_of}
 use Rattle.running_store.proofs.Rowing.{only_row, rows_set, state_with_row}
 use Rattle.channel_turns.proofs.WriteMeant.{free, has_empty, has_place, HasEmpty, HasPlace, means_at, page_cause}
 use Rattle.channel_turns.proofs.WriteMeant.{place_by}
 use Rattle.channel_turns.proofs.WriteMeant.{refused_so, slot_low, unfilled}
+use Rattle.channel_turns.proofs.FirstCommand.{IsLogged}
 
 module _ {D : Type 0} (d : Ghosts D) (p : StoreView D) (channel : ℕ) (running : IsRunning (state_of d p))
     (runs : p.stopped ≡ None) (are : AreResolved p.metas p.marked) (w : WaitsToWrite p channel Claiming)
@@ -77,8 +78,7 @@ module _ {D : Type 0} (d : Ghosts D) (p : StoreView D) (channel : ℕ) (running 
     -- by now it is refused
     pub claim_refused : (reply : Reply) → IsPageCause reply → IsFirstOnPages p.metas p.super command (Some reply)
         → channel < length p.rows → (q : StoreView D)
-        → ((command : Command) (rest : List Command) → (rows_of p.rows channel).left ≡ command ∷ rest
-        → q ≡ logged_on p channel command rest reply (d.clock q.disk))
+        → IsLogged Idle d p channel reply q
         → TurnsAs d IsOfClaim p q
     claim_refused reply caused first low q logged =
         let is = logged command w.rest (ap (λ (x : Row). x.left) w.row) in
@@ -103,10 +103,11 @@ module _ {D : Type 0} (d : Ghosts D) (p : StoreView D) (channel : ℕ) (running 
         }
 
     -- a cluster is to be claimed for it
-    module _ (first : IsFirstOnPages p.metas p.super command None) (h : ℕ) (is : head ≡ Some h)
+    module _ (first : Option Reply) (is_first : IsFirstOnPages p.metas p.super command first)
+        (passes : first ≡ None) (h : ℕ) (is : head ≡ Some h)
         (there : IfSome head (λ h. IsSome (map.get p.metas h))) where
       asked : refusal (fixed_of p.super) (shown s) command ≡ None
-      asked = refused_so d p channel Claiming running runs are w head meant None first
+      asked = refused_so d p channel Claiming running runs are w head meant first is_first ∙ passes
 
       abbrev x : HasEmpty (map.get p.metas) k h w.page
       x = has_empty (map.get p.metas) k h w.page
@@ -205,8 +206,7 @@ module _ {D : Type 0} (d : Ghosts D) (p : StoreView D) (channel head slot : ℕ)
 
   -- no cluster is clear
   pub claim_full : IsFull p.clusters → (q : StoreView D)
-      → ((command : Command) (rest : List Command) → (rows_of p.rows channel).left ≡ command ∷ rest
-      → q ≡ logged_on p channel command rest r.Full (d.clock q.disk))
+      → IsLogged Idle d p channel r.Full q
       → TurnsAs d IsOfClaim p q
   claim_full full q logged =
       let is = logged asking w.rest (ap (λ (x : Row). x.left) w.row) in

@@ -1,8 +1,7 @@
 -- The claim of the fill's row, for the slot that is to be filled next.
 use Rattle.std.proofs.Common.{◌≡◌, ℕ, ◌<◌, true, List, [], ◌∷◌, Option, Some, None, length, refl, sym, ap, subst}
 use Rattle.std.proofs.Common.{◌∙◌, arith, inl, inr}
-use Rattle.std.specs.Prelude.{is_some, IsSome, slice_set}
-use Rattle.std.specs.FinMap as map
+use Rattle.std.specs.Prelude.{slice_set}
 use Rattle.std.proofs.lemmas.Bool.{cases_eq, eq-eqb, ne_eqb}
 use Rattle.std.proofs.Math.Path.{fun_ext}
 use Rattle.bit_array.specs.Bits.{IsFull}
@@ -12,23 +11,20 @@ use Rattle.volume_model.specs.Volumes.{head_of}
 use Rattle.volume_model.specs.declared.command.Command.{Command}
 use Rattle.volume_model.specs.declared.command.VolumeRef.{VolumeRef}
 use Rattle.volume_model.specs.declared.reply.Reply.TheVariants as r
-use Rattle.blob_meta.specs.declared.meta.Meta.{Meta}
-use Rattle.blob_meta.specs.Resolving.{resolved}
 use Rattle.blob_meta.specs.ShownBy.{IsHeadMeant}
-use Rattle.inflate_delete.specs.Fills.{command_of, is_to_fill}
+use Rattle.inflate_delete.specs.Fills.{command_of}
 use Rattle.inflate_delete.specs.declared.filling.FillKind.{FillKind}
 use Rattle.inflate_delete.specs.declared.filling.FillKind.TheVariants.{Inflate, Decouple}
 use Rattle.store_model.specs.Cases as kind
 use Rattle.store_model.specs.Cases.Halt.{MayLog, stage_after}
 use Rattle.store_model.specs.Filling.{unused_row, AsksForFill, FillStands, HasToFill, StandsAt}
 use Rattle.store_model.specs.Places.{without_claim}
-use Rattle.store_model.specs.Rows.{Copying, Idle, Row, Rows, fill_row, with_row}
+use Rattle.store_model.specs.Rows.{Answered, Copying, Decided, Idle, Row, Rows, fill_row, with_row}
 use Rattle.store_model.specs.Shown.{fixed_of}
 use Rattle.store_model.specs.StoreState.{logged, shown, StoreState}
 use Rattle.store_model.specs.Turning.{IsPosted}
-use Rattle.store_model.proofs.Resolved.{resolved_of}
 use Rattle.running_store.specs.GivingBack.{fill_given_back}
-use Rattle.running_store.specs.Steps.{IsPostedAt, logged_at, OnlyRow}
+use Rattle.running_store.specs.Steps.{Asks, IsPostedAt, logged_at, OnlyRow}
 use Rattle.running_store.specs.RunningState.{IsRunning}
 use Rattle.running_store.specs.StoreView.{AreResolved, device_of, rows_of, state_of, StoreView}
 use Rattle.running_store.specs.TurnMade.{TurnMade}
@@ -38,6 +34,7 @@ use Rattle.running_store.proofs.Rowing.{low_left, only_row, rows_set}
 use Rattle.running_store.proofs.Showing.{shows_metas}
 use Rattle.channel_turns.specs.ClaimTurns.{HoldsLeast}
 use Rattle.channel_turns.specs.FillTurns.{FillsOf, IsNextToFill}
+use Rattle.channel_turns.proofs.FirstCommand.{IsFirstIn, IsLogged}
 
 -- the command fills slots of one volume
 same_volume : (k j : FillKind) (a b : VolumeRef) → command_of k a ≡ command_of j b → a ≡ b
@@ -45,15 +42,6 @@ same_volume Inflate Inflate a b is = cc is
 same_volume Decouple Decouple a b is = cc is
 same_volume Inflate Decouple a b is = absurd (cc is)
 same_volume Decouple Inflate a b is = absurd (cc is)
-
--- a blob that has a slot to be filled is there
-there_so : (metas : ℕ → Option Meta) (head : ℕ) (kind : FillKind) (slot : ℕ) → is_to_fill metas head kind slot ≡ true
-    → (m : Meta) × (metas head ≡ Some m)
-there_so metas head kind slot passes = by (metas head) refl
-  where
-    by : (o : Option Meta) → metas head ≡ o → (m : Meta) × (metas head ≡ Some m)
-    by (Some m) is = (m, is)
-    by None is = absurd (let bad : _ ≡ true = rw is at passes in cc bad)
 
 -- a row that is as it was
 row_still : (rows : Rows) (at : ℕ) (row : Row) → rows at ≡ row → with_row rows at row ≡ rows
@@ -82,7 +70,7 @@ module _ {D : Type 0} (d : Ghosts D) (p : StoreView D) (channel : ℕ) (posted :
     row = posted.waits.row;
   }
 
-  left : (rows_of p.rows channel).left ≡ command ∷ rest
+  pub left : (rows_of p.rows channel).left ≡ command ∷ rest
   left = ap (λ (x : Row). x.left) posted.waits.row
 
   low : channel < length p.rows
@@ -91,9 +79,12 @@ module _ {D : Type 0} (d : Ghosts D) (p : StoreView D) (channel : ℕ) (posted :
   fill_low : fill_row < length p.rows
   fill_low = omega (arith, seventeen)
 
-  module _ (slot : ℕ) (next : IsNextToFill s command slot) (running : IsRunning s) (runs : p.stopped ≡ None)
-      (no_job : p.job ≡ None) (are : AreResolved p.metas p.marked) (volume : VolumeRef) (fills : FillsOf command volume)
-      (head : Option ℕ) (meant : IsHeadMeant p.metas p.super volume head) where
+  -- the slot is the next one to be filled for the command
+  module _ (slot : ℕ) (to_fill : Asks p channel (λ k. IsNextToFill s k slot)) (running : IsRunning s)
+      (runs : p.stopped ≡ None) (no_job : p.job ≡ None) (are : AreResolved p.metas p.marked) where
+    abbrev next : IsNextToFill s command slot
+    next = to_fill command rest left
+
     abbrev has : HasToFill s
     has = record {
       posted = is_posted;
@@ -108,24 +99,9 @@ module _ {D : Type 0} (d : Ghosts D) (p : StoreView D) (channel : ℕ) (posted :
       least = next.least;
     }
 
-    -- the blob that is found is the one that it means
-    pub found_so : head ≡ Some next.head
-    found_so =
-        sym (meant (fixed_of p.super) (shown s) (shows_metas s running runs p.metas are.resolves))
-        ∙ ap (head_of (fixed_of p.super) (shown s))
-        (same_volume fills.kind next.asks.kind volume next.asks.volume (sym fills.is ∙ next.asks.is))
-        ∙ next.found
-
-    -- and has a generation
-    pub numbered : IsSome (map.get p.guards.generations next.head)
-    numbered =
-        let there = there_so (resolved s.base) next.head next.asks.kind slot next.least.passes in
-        let before = resolved_of s.base next.head there.0 there.1 in
-        (running.facts.well runs).generations.each next.head ∙ ap is_some before.there
-
-    pub fill_claimed : (q : StoreView D) → HoldsLeast p q fill_row next.head slot
+    claimed_there : (q : StoreView D) → HoldsLeast p q fill_row next.head slot
         → TurnMade d p (record q { filling = Some channel }) kind.claims_fill
-    fill_claimed q h =
+    claimed_there q h =
         let given : Row = record {
           left = [];
           stage = Copying (cluster_pages_of p.super);
@@ -158,12 +134,43 @@ module _ {D : Type 0} (d : Ghosts D) (p : StoreView D) (channel : ℕ) (posted :
           ap (λ (v : StoreView D). v.disk) h.next,
         )
 
-    pub fill_lacks : (q : StoreView D) → IsFull p.clusters
-        → q ≡ logged_at p channel command rest r.Full (d.clock q.disk) → TurnMade d p q kind.lacks_for_fill
-    fill_lacks q full is = (
-      record { fill = has; full = full; next = entered d p q channel command rest r.Full low is },
-      disk_same d p q channel command rest r.Full low is,
-    )
+    -- no cluster is clear
+    pub fill_lacks : IsFull p.clusters → (mid : StoreView D) → mid ≡ p → (q : StoreView D)
+        → IsLogged (Decided Answered) d mid channel r.Full q → TurnMade d p q kind.lacks_for_fill
+    fill_lacks full mid same q logged =
+        let is = subst (λ (v : StoreView D). IsLogged (Decided Answered) d v channel r.Full q) same logged command rest
+        left in (
+          record { fill = has; full = full; next = entered d p q channel command rest r.Full low is },
+          disk_same d p q channel command rest r.Full low is,
+        )
+
+    -- the command is found in rows that are the store's
+    module _ (seen : List Row) (same : seen ≡ p.rows) (found : Command) (first : IsFirstIn seen channel found) where
+      found_is : found ≡ command
+      found_is = first command rest (ap (λ (l : List Row). (rows_of l channel).left) same ∙ left)
+
+      -- what is found asks for a fill
+      pub asks_for_fill : AsksForFill found
+      asks_for_fill = subst AsksForFill (sym found_is) next.asks
+
+      -- its blob is found
+      module _ (volume : VolumeRef) (fills : FillsOf found volume) (head : Option ℕ)
+          (meant : IsHeadMeant p.metas p.super volume head) where
+        pub found_so : head ≡ Some next.head
+        found_so =
+            sym (meant (fixed_of p.super) (shown s) (shows_metas s running runs p.metas are.resolves))
+            ∙ ap (head_of (fixed_of p.super) (shown s))
+            (same_volume fills.kind next.asks.kind volume next.asks.volume (sym fills.is ∙ found_is ∙ next.asks.is))
+            ∙ next.found
+
+        one_head : (h : ℕ) → head ≡ Some h → h ≡ next.head
+        one_head h is = let both : Some h ≡ Some next.head = sym is ∙ found_so in cc both
+
+        -- the least clear cluster is claimed for it
+        pub fill_claimed : (h : ℕ) → head ≡ Some h → (q : StoreView D) → HoldsLeast p q fill_row h slot
+            → TurnMade d p (record q { filling = Some channel }) kind.claims_fill
+        fill_claimed h is q holds =
+            claimed_there q (subst (λ n. HoldsLeast p q fill_row n slot) (one_head h is) holds)
 
   -- on a stopped store nothing but the entry changes: the fill's row has no claim, and works for none
   module _ (fill : FillStands s) where

@@ -1,10 +1,9 @@
 -- What a channel's flush makes of the store.
-use Rattle.std.proofs.Common.{None, false, true, ◌≡◌, ℕ, ◌<◌, List, ◌∷◌, length, sym, ◌∙◌, ap, subst}
+use Rattle.std.proofs.Common.{None, false, true, ◌≡◌, ℕ, ◌<◌, ◌∷◌, length, sym, ◌∙◌, ap, subst}
 use Rattle.std.proofs.Common.{IsTrue}
 use Rattle.page_disk.specs.Disk.{Only}
 use Rattle.page_disk.specs.Moments.{CallsLeaveOnly}
 use Rattle.page_disk.specs.declared.disk.PageDisk.{Ghosts}
-use Rattle.volume_model.specs.declared.command.Command.{Command}
 use Rattle.volume_model.specs.declared.command.Command.TheVariants as c
 use Rattle.volume_model.specs.declared.reply.Reply.TheVariants as r
 use Rattle.store_model.specs.Cases.{FailsToReplace}
@@ -17,9 +16,10 @@ use Rattle.channel_turns.specs.ChannelTurns.{IsOfFlush, WaitsToFlush}
 use Rattle.running_store.specs.TurnMade.{TurnsAs}
 use Rattle.running_store.proofs.Thawed.{state_stopped}
 use Rattle.channel_turns.proofs.Thawed.{IsThawed}
-use Rattle.running_store.specs.Steps.{logged_on, stopped_here}
+use Rattle.running_store.specs.Steps.{stopped_here}
 use Rattle.running_store.specs.StoreView.{StoreView, device_of, rows_of}
 use Rattle.running_store.proofs.Entered.{disk_same_then, entered_then}
+use Rattle.channel_turns.proofs.FirstCommand.{IsLogged}
 
 module _ {D : Type 0} (d : Ghosts D) (p : StoreView D) (channel : ℕ) (low : channel < length p.rows)
     (runs : p.stopped ≡ None) (w : WaitsToFlush p channel) (disk : D)
@@ -29,8 +29,7 @@ module _ {D : Type 0} (d : Ghosts D) (p : StoreView D) (channel : ℕ) (low : ch
 
   pub flush_made : IsFlushed (device_of d p.disk) (device_of d disk)
       → (IsTrue d.tells → Only (d.now disk) (d.images disk))
-      → ((command : Command) (rest : List Command) → (rows_of p.rows channel).left ≡ command ∷ rest
-      → q ≡ logged_on (record p { disk = disk }) channel command rest r.Ok (d.clock q.disk))
+      → IsLogged Idle d (record p { disk = disk }) channel r.Ok q
       → TurnsAs d IsOfFlush p q
   flush_made flushed durable logged =
       let is = logged c.Flush w.rest left in
@@ -55,8 +54,7 @@ module _ {D : Type 0} (d : Ghosts D) (p : StoreView D) (channel : ℕ) (low : ch
 
   pub flush_failed : IsThawed p
       → FailsToReplace (device_of d p.disk) (device_of d disk)
-      → ((command : Command) (rest : List Command) → (rows_of p.rows channel).left ≡ command ∷ rest
-      → q ≡ logged_on (stopped_here (record p { disk = disk })) channel command rest r.Fault (d.clock q.disk))
+      → IsLogged Idle d (stopped_here (record p { disk = disk })) channel r.Fault q
       → TurnsAs d IsOfFlush p q
   flush_failed thawed fails logged =
       let is = logged c.Flush w.rest left in

@@ -1,5 +1,6 @@
 pub mod Flushed
 pub mod PagesShown
+pub mod FirstCommand
 pub mod WriteMeant
 pub mod WriteAsked
 pub mod ClaimAsked

@@ -39,22 +39,23 @@ use Rattle.running_store.specs.TurnMade.{TurnsAs}
 use Rattle.running_store.specs.Reserved.{is_read, IsContent}
 use Rattle.running_store.specs.RunningState.{IsRunning}
 use Rattle.running_store.specs.StoreView.{AreResolved, device_of, read_now, rows_of, state_of, StoreView}
-use Rattle.running_store.specs.Steps.{logged_on}
+use Rattle.running_store.specs.Steps.{Asks}
 use Rattle.running_store.proofs.Entered.{disk_same_then, entered_then}
 use Rattle.running_store.proofs.Moving.{not_read}
 use Rattle.channel_turns.proofs.PagesShown.{in_range, page_shown, read_low, shows_pages, volume_shown}
+use Rattle.channel_turns.proofs.FirstCommand.{frozen_first, IsFirstIn, IsLogged}
 
 -- a channel's read, by what is read of its first command
-abbrev pub seen_read : {D : Type 0} (p : StoreView D) (channel : ℕ) (w : WaitsToRead p channel) (command : Command)
-    (volume : VolumeRef) (page : ℕ)
-    → ((k : Command) (rest : List Command) → (rows_of p.rows channel).left ≡ k ∷ rest → command ≡ k)
+abbrev pub seen_read : {D : Type 0} (p : StoreView D) (channel : ℕ) (w : WaitsToRead p channel) {rows : List Row}
+    {command : Command} {volume : VolumeRef} {page : ℕ} → rows ≡ p.rows → IsFirstIn rows channel command
     → command ≡ c.Read volume page → WaitsToRead p channel
-seen_read p channel w command volume page first is = record {
+seen_read p channel w {rows} {command} {volume} {page} same first is = record {
   volume = volume;
   page = page;
   rest = w.rest;
   row = w.row ∙ ap (λ (k : Command). record { left = k ∷ w.rest; stage = Idle; claim = None })
-      (sym (first (c.Read w.volume w.page) w.rest (ap (λ (x : Row). x.left) w.row)) ∙ is);
+      (sym (first (c.Read w.volume w.page) w.rest
+      (ap (λ (l : List Row). (rows_of l channel).left) same ∙ ap (λ (x : Row). x.left) w.row)) ∙ is);
 }
 
 -- such a reply may come to a read, and speaks of no failed write or flush
@@ -94,6 +95,42 @@ pub failed_so : {T : Type 0} (old new : Device) (x : Result T DiskFault) → is_
 failed_so old new (Ok v) is so = absurd (cc is)
 failed_so old new (Err e) is so = so
 
+-- what is read of the device answers a read of a blob that isn't frozen
+answered : {D : Type 0} (d : Ghosts D) (p : StoreView D) (channel : ℕ) (w : WaitsToRead p channel) → p.stopped ≡ None
+    → IsNotFrozen (state_of d p) w.volume → channel < length p.rows → (disk : D)
+    → CallsLeaveOnly d p.disk disk (d.images p.disk) → (q : StoreView D) → (reply : Reply) → IsQuiet reply
+    → Allowed (fixed_of p.super) (shown (state_of d p)) (c.Read w.volume w.page) (seen_reply d.tells reply)
+    → IsRead (device_of d p.disk) (device_of d disk) reply → IsLogged Idle d (record p { disk = disk }) channel reply q
+    → TurnsAs d IsOfRead p q
+answered {D = D} d p channel w runs free low disk moments q reply quiet step read logged =
+    let reading = c.Read w.volume w.page in
+    let is = logged reading w.rest (ap (λ (x : Row). x.left) w.row) in
+    let mid : StoreView D = record p { disk = disk } in
+    record {
+      kind = kind.reads;
+      is = tt;
+      made = (
+        record {
+          channel = channel;
+          volume = w.volume;
+          page = w.page;
+          rest = w.rest;
+          row = w.row;
+          runs = runs;
+          free = free;
+          reply = reply;
+          quiet = quiet;
+          step = step;
+          device = device_of d disk;
+          read = read;
+          next = entered_then Idle d mid q channel reading w.rest reply low is;
+        },
+        subst (λ (x : D). Touched d p.disk x (no_new false))
+            (sym (disk_same_then Idle d mid q channel reading w.rest reply low is))
+            (record { moments = moments; durable = λ never. absurd (cc never) }),
+      );
+    }
+
 -- ---- what is found of the blob
 
 module _ {D : Type 0} (d : Ghosts D) (p : StoreView D) (channel : ℕ) (running : IsRunning (state_of d p))
@@ -112,10 +149,11 @@ module _ {D : Type 0} (d : Ghosts D) (p : StoreView D) (channel : ℕ) (running 
   head_is = meant (fixed_of p.super) (shown s) (shows_pages s running runs p.metas are.resolves).shows
 
   -- its blob is frozen
-  pub frozen_so : option_map_or (set.contains p.guards.frozen) head false ≡ true → IsFrozenFor s command
+  pub frozen_so : option_map_or (set.contains p.guards.frozen) head false ≡ true → Asks p channel (IsFrozenFor s)
   frozen_so on =
       let x = found_frozen (fixed_of p.super) (shown s) (set.contains p.guards.frozen) w.volume head head_is on in
-      record { head = x.0; named = x.1; frozen = x.2 }
+      frozen_first d p channel command w.rest (ap (λ (x : Row). x.left) w.row)
+      (record { head = x.0; named = x.1; frozen = x.2 })
 
   module _ (thawed : option_map_or (set.contains p.guards.frozen) head false ≡ false) where
     free : IsNotFrozen s w.volume
@@ -125,42 +163,19 @@ module _ {D : Type 0} (d : Ghosts D) (p : StoreView D) (channel : ℕ) (running 
     pub read_refused : (reply : Reply) → IsPageCause reply
         → IsFirstOnPages p.metas p.super command (Some reply)
         → channel < length p.rows → (q : StoreView D)
-        → ((command : Command) (rest : List Command) → (rows_of p.rows channel).left ≡ command ∷ rest
-        → q ≡ logged_on p channel command rest reply (d.clock q.disk))
+        → IsLogged Idle d p channel reply q
         → CallsLeaveOnly d p.disk p.disk (d.images p.disk)
         → TurnsAs d IsOfRead p q
     read_refused reply caused first low q logged none =
-        let is = logged command w.rest (ap (λ (x : Row). x.left) w.row) in
         let x = caused_step s w.volume w.page reply caused
         (first (fixed_of p.super) (shown s) (shows_pages s running runs p.metas are.resolves)) in
-        record {
-          kind = kind.reads;
-          is = tt;
-          made = (
-            record {
-              channel = channel;
-              volume = w.volume;
-              page = w.page;
-              rest = w.rest;
-              row = w.row;
-              runs = runs;
-              free = free;
-              reply = reply;
-              quiet = x.1;
-              step = x.0;
-              device = device_of d p.disk;
-              read = not_read d p.disk reply (caused_no_fault reply caused);
-              next = entered_then Idle d p q channel command w.rest reply low is;
-            },
-            subst (λ (x : D). Touched d p.disk x (no_new false))
-                (sym (disk_same_then Idle d p q channel command w.rest reply low is))
-                (record { moments = none; durable = λ never. absurd (cc never) }),
-          );
-        }
+        answered d p channel w runs free low p.disk none q reply x.1 x.0
+        (not_read d p.disk reply (caused_no_fault reply caused)) logged
 
-    module _ (first : IsFirstOnPages p.metas p.super command None) where
+    module _ (first : Option Reply) (is_first : IsFirstOnPages p.metas p.super command first)
+        (passes : first ≡ None) where
       abbrev asked : refusal (fixed_of p.super) (shown s) command ≡ None
-      asked = first (fixed_of p.super) (shown s) (shows_pages s running runs p.metas are.resolves)
+      asked = is_first (fixed_of p.super) (shown s) (shows_pages s running runs p.metas are.resolves) ∙ passes
 
       abbrev place_for : Option ℕ → Option ℕ
       place_for o = option_and_then (λ h. place_read k (map.get p.metas) (p.super.md_len + 1) h w.page) o
@@ -232,56 +247,21 @@ module _ {D : Type 0} (d : Ghosts D) (p : StoreView D) (channel : ℕ) (place : 
       let e : command ≡ reading = cc both in
       ap is_read e
 
-  made : (reply : Reply) → IsQuiet reply
-      → Allowed (fixed_of p.super) (shown (state_of d p)) reading (seen_reply d.tells reply)
-      → IsRead (device_of d p.disk) (device_of d disk) reply
-      → ((command : Command) (rest : List Command) → (rows_of p.rows channel).left ≡ command ∷ rest
-      → q ≡ logged_on (record p { disk = disk }) channel command rest reply (d.clock q.disk))
-      → TurnsAs d IsOfRead p q
-  made reply quiet step read logged =
-      let is = logged reading w.rest left in
-      let mid : StoreView D = record p { disk = disk } in
-      record {
-        kind = kind.reads;
-        is = tt;
-        made = (
-          record {
-            channel = channel;
-            volume = w.volume;
-            page = w.page;
-            rest = w.rest;
-            row = w.row;
-            runs = x.runs;
-            free = x.free;
-            reply = reply;
-            quiet = quiet;
-            step = step;
-            device = device_of d disk;
-            read = read;
-            next = entered_then Idle d mid q channel reading w.rest reply low is;
-          },
-          subst (λ (x : D). Touched d p.disk x (no_new false))
-              (sym (disk_same_then Idle d mid q channel reading w.rest reply low is))
-              (record { moments = moments; durable = λ never. absurd (cc never) }),
-        );
-      }
-
   -- it failed
   pub read_failed : IsRead (device_of d p.disk) (device_of d disk) r.ReadFault
-      → ((command : Command) (rest : List Command) → (rows_of p.rows channel).left ≡ command ∷ rest
-      → q ≡ logged_on (record p { disk = disk }) channel command rest r.ReadFault (d.clock q.disk))
+      → IsLogged Idle d (record p { disk = disk }) channel r.ReadFault q
       → TurnsAs d IsOfRead p q
-  read_failed read logged = made r.ReadFault tt (x.asked, tt) read logged
+  read_failed read logged =
+      answered d p channel w x.runs x.free low disk moments q r.ReadFault tt (x.asked, tt) read logged
 
   -- the content is answered
   pub read_made : (content : List ℕ) → (IsTrue d.tells → content ≡ option_map_or (d.now p.disk) place zero_page)
       → ((reply : Reply) → reply ≢ r.ReadFault → IsRead (device_of d p.disk) (device_of d disk) reply)
       → (reply : Reply) → IsContent content reply
-      → ((command : Command) (rest : List Command) → (rows_of p.rows channel).left ≡ command ∷ rest
-      → q ≡ logged_on (record p { disk = disk }) channel command rest reply (d.clock q.disk))
+      → IsLogged Idle d (record p { disk = disk }) channel reply q
       → TurnsAs d IsOfRead p q
   read_made content is read (r.Content page) holds logged =
-      made (r.Content page) tt (
+      answered d p channel w x.runs x.free low disk moments q (r.Content page) tt (
         x.asked,
         x.content ∙ ap (λ (l : List ℕ). Some l) (content_seen d.tells (d.now p.disk) place page.value
             (λ tells. holds ∙ is tells)),

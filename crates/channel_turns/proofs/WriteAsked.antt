@@ -1,5 +1,5 @@
 -- What a channel's write of a page comes to, by what was found of its blob.
-use Rattle.std.proofs.Common.{◌≡◌, ℕ, ◌/◌, ◌<◌, ◌∷◌, false, List, Option, Some, None, length}
+use Rattle.std.proofs.Common.{◌≡◌, ℕ, ◌/◌, ◌<◌, ◌∷◌, false, Option, Some, None, length}
 use Rattle.std.proofs.Common.{refl, sym, ap, subst, ◌∙◌}
 use Rattle.std.specs.Prelude.{IfSome, IsSome}
 use Rattle.std.specs.Option.{option_map_or}
@@ -25,12 +25,13 @@ use Rattle.running_store.specs.TurnMade.{TurnMade, TurnsAs}
 use Rattle.channel_turns.specs.ClaimTurns.{writing}
 use Rattle.running_store.specs.RunningState.{IsRunning}
 use Rattle.running_store.specs.StoreView.{AreResolved, rows_of, state_of, StoreView}
-use Rattle.running_store.specs.Steps.{logged_on, with_row_at}
+use Rattle.running_store.specs.Steps.{with_row_at}
 use Rattle.running_store.proofs.Entered.{disk_same_then, entered_then}
 use Rattle.channel_turns.proofs.PagesShown.{page_low, writable}
 use Rattle.running_store.proofs.Rowing.{state_with_row}
 use Rattle.channel_turns.proofs.WriteMeant.{free, has_place, HasPlace, head_is, means_none, page_cause, place_by}
 use Rattle.channel_turns.proofs.WriteMeant.{refused_so}
+use Rattle.channel_turns.proofs.FirstCommand.{IsLogged}
 
 module _ {D : Type 0} (d : Ghosts D) (p : StoreView D) (channel : ℕ) (running : IsRunning (state_of d p))
     (runs : p.stopped ≡ None) (are : AreResolved p.metas p.marked) (w : WaitsToWrite p channel Idle) (head : Option ℕ)
@@ -48,8 +49,7 @@ module _ {D : Type 0} (d : Ghosts D) (p : StoreView D) (channel : ℕ) (running 
   -- it is refused
   pub refused : (reply : Reply) → IsPageCause reply → IsFirstOnPages p.metas p.super command (Some reply)
       → channel < length p.rows → (q : StoreView D)
-      → ((command : Command) (rest : List Command) → (rows_of p.rows channel).left ≡ command ∷ rest
-      → q ≡ logged_on p channel command rest reply (d.clock q.disk))
+      → IsLogged Idle d p channel reply q
       → TurnsAs d IsOfWrite p q
   refused reply caused first low q logged =
       let is = logged command w.rest (ap (λ (x : Row). x.left) w.row) in
@@ -75,9 +75,10 @@ module _ {D : Type 0} (d : Ghosts D) (p : StoreView D) (channel : ℕ) (running 
         );
       }
 
-  module _ (first : IsFirstOnPages p.metas p.super command None) where
+  module _ (first : Option Reply) (is_first : IsFirstOnPages p.metas p.super command first)
+      (passes : first ≡ None) where
     asked : refusal (fixed_of p.super) (shown s) command ≡ None
-    asked = refused_so d p channel Idle running runs are w head meant None first
+    asked = refused_so d p channel Idle running runs are w head meant first is_first ∙ passes
 
     -- its slot has a cluster
     module _ (place : ℕ) (found : place_by (map.get p.metas) k w.page head ≡ Some place) where

@@ -38,8 +38,10 @@ use Rattle.store_model.proofs.Inside.{none_of_map}
 use Rattle.channel_turns.specs.ChannelTurns.{IsFrozenFor, WaitsToWrite}
 use Rattle.channel_turns.specs.ClaimTurns.{writing}
 use Rattle.running_store.specs.RunningState.{IsRunning}
+use Rattle.running_store.specs.Steps.{Asks}
 use Rattle.running_store.specs.StoreView.{AreResolved, rows_of, state_of, StoreView}
 use Rattle.channel_turns.proofs.PagesShown.{few_slots, page_within, shows_pages}
+use Rattle.channel_turns.proofs.FirstCommand.{frozen_first, IsFirstIn}
 
 -- a head that is found is that of a blob
 pub found_there : (metas : map.FinMap nat_cmp Meta) (sup : Super) (volume : VolumeRef) (o : Option ℕ)
@@ -49,16 +51,16 @@ found_there metas sup volume (Some h) found = meant_there sup.super_blob metas v
 
 -- a channel's write, by what is read of its first command
 abbrev pub seen_write : {D : Type 0} (p : StoreView D) (channel : ℕ) (stage : Stage) (w : WaitsToWrite p channel stage)
-    (command : Command) (volume : VolumeRef) (page : ℕ) (word : PageWord)
-    → ((k : Command) (rest : List Command) → (rows_of p.rows channel).left ≡ k ∷ rest → command ≡ k)
-    → command ≡ c.Write volume page word → WaitsToWrite p channel stage
-seen_write p channel stage w command volume page word first is = record {
+    {rows : List Row} {command : Command} {volume : VolumeRef} {page : ℕ} {word : PageWord} → rows ≡ p.rows
+    → IsFirstIn rows channel command → command ≡ c.Write volume page word → WaitsToWrite p channel stage
+seen_write p channel stage w {rows} {command} {volume} {page} {word} same first is = record {
   volume = volume;
   page = page;
   word = word;
   rest = w.rest;
   row = w.row ∙ ap (λ (k : Command). record { left = k ∷ w.rest; stage = stage; claim = None })
-      (sym (first (c.Write w.volume w.page w.word) w.rest (ap (λ (x : Row). x.left) w.row)) ∙ is);
+      (sym (first (c.Write w.volume w.page w.word) w.rest
+      (ap (λ (l : List Row). (rows_of l channel).left) same ∙ ap (λ (x : Row). x.left) w.row)) ∙ is);
 }
 
 -- a cause on a page is one in the volumes
@@ -150,10 +152,11 @@ module _ {D : Type 0} (d : Ghosts D) (p : StoreView D) (channel : ℕ) (stage : 
   head_is = meant (fixed_of p.super) (shown s) (shows_pages s running runs p.metas are.resolves).shows
 
   -- its blob is frozen
-  pub frozen_so : option_map_or (set.contains p.guards.frozen) head false ≡ true → IsFrozenFor s command
+  pub frozen_so : option_map_or (set.contains p.guards.frozen) head false ≡ true → Asks p channel (IsFrozenFor s)
   frozen_so on =
       let x = found_frozen (fixed_of p.super) (shown s) (set.contains p.guards.frozen) w.volume head head_is on in
-      record { head = x.0; named = x.1; frozen = x.2 }
+      frozen_first d p channel command w.rest (ap (λ (x : Row). x.left) w.row)
+      (record { head = x.0; named = x.1; frozen = x.2 })
 
   -- what refuses it
   pub refused_so : (first : Option Reply) → IsFirstOnPages p.metas p.super command first

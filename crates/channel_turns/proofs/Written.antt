@@ -17,10 +17,11 @@ use Rattle.store_model.specs.Touches.{puts, Touched}
 use Rattle.channel_turns.specs.ChannelTurns.{IsOfWrite, WritesNow}
 use Rattle.running_store.proofs.Thawed.{state_stopped}
 use Rattle.channel_turns.proofs.Thawed.{IsThawed}
-use Rattle.running_store.specs.Steps.{logged_on, stopped_here}
+use Rattle.running_store.specs.Steps.{stopped_here}
 use Rattle.running_store.specs.TurnMade.{TurnsAs}
 use Rattle.running_store.specs.StoreView.{device_of, rows_of, state_of, StoreView}
 use Rattle.running_store.proofs.Entered.{disk_same_then, entered_then}
+use Rattle.channel_turns.proofs.FirstCommand.{IsLogged}
 
 -- of a device that doesn't tell zeros stand for all pages
 pub blank : (tells : Bool) (now : Image) → tells ≡ false → (n : ℕ)
@@ -51,8 +52,7 @@ module _ {D : Type 0} (d : Ghosts D) (p : StoreView D) (channel place : ℕ) (co
 
   -- the page is written
   pub written_made : WritesOnePage d.tells (device_of d p.disk) place content 1 (device_of d disk)
-      → ((command : Command) (rest : List Command) → (rows_of p.rows channel).left ≡ command ∷ rest
-      → q ≡ logged_on (record p { disk = disk }) channel command rest r.Ok (d.clock q.disk))
+      → IsLogged Idle d (record p { disk = disk }) channel r.Ok q
       → TurnsAs d IsOfWrite p q
   written_made moves logged =
       let is = logged command w.at.rest left in
@@ -81,8 +81,7 @@ module _ {D : Type 0} (d : Ghosts D) (p : StoreView D) (channel place : ℕ) (co
   -- the write failed
   pub write_failed : IsThawed p
       → FailsToReplace (device_of d p.disk) (device_of d disk)
-      → ((command : Command) (rest : List Command) → (rows_of p.rows channel).left ≡ command ∷ rest
-      → q ≡ logged_on (stopped_here (record p { disk = disk })) channel command rest r.Fault (d.clock q.disk))
+      → IsLogged Idle d (stopped_here (record p { disk = disk })) channel r.Fault q
       → TurnsAs d IsOfWrite p q
   write_failed thawed fails logged =
       let is = logged command w.at.rest left in

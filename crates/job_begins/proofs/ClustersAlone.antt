@@ -36,22 +36,16 @@ set_with bits ps low c = elim (cases_Bool (is_among c ps)) [
       )
 ]
 
--- ---- a blob that is there has other metadata with the same map
+-- ---- a blob has other metadata
 
-pub moves_same : (s : Super) (base : Metas) (head : ℕ) (old new : Meta) → base head ≡ Some old → new.map ≡ old.map
+-- New metadata of a blob moves no cluster, if those of the old are in maps behind it, and its own were in maps before.
+pub moves_none : (s : Super) (base : Metas) (head : ℕ) (new : Meta)
+    → ((m : Meta) (place c : ℕ) → base head ≡ Some m → slot m place ≡ Some c → IsMapped (with_entry base head new) c)
+    → ((place c : ℕ) → slot new place ≡ Some c → IsMapped base c)
     → MovesClusters s base (with_entry base head new) [] []
-moves_same s base head old new there map_is = record {
+moves_none s base head new stay had = record {
   kept = λ c x. inl (elim (cases_eq x.head head) [
-    | inl e ↦
-        let one : old ≡ x.meta = let both = sym there ∙ sym (ap base e) ∙ x.there in cc both in
-        record {
-          head = head;
-          meta = new;
-          there = given_here base head new head refl;
-          place = x.place;
-          in_slot = ap (λ l. slot (record new { map = l }) x.place) map_is
-              ∙ ap (λ (m : Meta). slot m x.place) one ∙ x.in_slot;
-        }
+    | inl e ↦ stay x.meta x.place c (sym (ap base e) ∙ x.there) x.in_slot
     | inr ne ↦ record {
       head = x.head;
       meta = x.meta;
@@ -64,14 +58,7 @@ moves_same s base head old new there map_is = record {
   gained = λ c x. inl (elim (cases_eq x.head head) [
     | inl e ↦
         let one : new ≡ x.meta = let both = sym (given_here base head new x.head e) ∙ x.there in cc both in
-        record {
-          head = head;
-          meta = old;
-          there = there;
-          place = x.place;
-          in_slot = sym (ap (λ l. slot (record new { map = l }) x.place) map_is)
-              ∙ ap (λ (m : Meta). slot m x.place) one ∙ x.in_slot;
-        }
+        had x.place c (ap (λ (m : Meta). slot m x.place) one ∙ x.in_slot)
     | inr ne ↦ record {
       head = x.head;
       meta = x.meta;
@@ -82,6 +69,29 @@ moves_same s base head old new there map_is = record {
   ]);
   filled = λ c bad. absurd (cc bad);
 }
+
+-- as where the map is the same
+pub moves_same : (s : Super) (base : Metas) (head : ℕ) (old new : Meta) → base head ≡ Some old → new.map ≡ old.map
+    → MovesClusters s base (with_entry base head new) [] []
+moves_same s base head old new there same = moves_none s base head new
+    (λ m place c is at. record {
+      head = head;
+      meta = new;
+      there = given_here base head new head refl;
+      place = place;
+      in_slot = let one : m ≡ old = let both = sym is ∙ there in cc both in
+          in_same place ∙ ap (λ (m : Meta). slot m place) (sym one) ∙ at;
+    })
+    (λ place c at. record {
+      head = head;
+      meta = old;
+      there = there;
+      place = place;
+      in_slot = sym (in_same place) ∙ at;
+    })
+  where
+    in_same : (place : ℕ) → slot new place ≡ slot old place
+    in_same place = ap (λ (l : List (Option ℕ)). slot (record new { map = l }) place) same
 
 -- ---- a blob is erased
 

@@ -1,8 +1,7 @@
 -- The begin of a delete's job, of a blob with one clone, and why it doesn't begin.
-use Rattle.std.proofs.Common.{◌≡◌, ◌≢◌, ◌∙◌, ℕ, ◌+◌, ◌-◌, ◌<◌, ◌^◌, Bool, true, List, [], ◌∷◌, ◌++◌, length, Some, None}
+use Rattle.std.proofs.Common.{◌≡◌, ◌≢◌, ◌∙◌, ℕ, ◌+◌, ◌-◌, ◌<◌, Bool, true, List, [], ◌∷◌, ◌++◌, length, Some, None}
 use Rattle.std.proofs.Common.{refl, sym, ap, append-nil, arith, inl, subst}
 use Rattle.std.specs.Prelude.{if◌then◌else◌, is_some, slice_set}
-use Rattle.std.specs.FinMap as map
 use Rattle.page_disk.specs.declared.disk.PageDisk.{Ghosts}
 use Rattle.pools.specs.Pool.{clear_in}
 use Rattle.descriptors.specs.declared.item.Item.{Item}
@@ -21,7 +20,7 @@ use Rattle.store_model.specs.Cases.{Begins, IsRefusedAtBegin}
 use Rattle.store_model.specs.Jobs.{LacksPagesFor, Needs}
 use Rattle.store_model.specs.Maps.{with_option}
 use Rattle.store_model.specs.Phases.{Committing}
-use Rattle.store_model.specs.Places.{all_set, AreLeastClear}
+use Rattle.store_model.specs.Places.{all_set}
 use Rattle.store_model.specs.RunInvariant.{RunsWell}
 use Rattle.store_model.specs.Rows.{InJob, Row}
 use Rattle.store_model.specs.Shown.{fixed_of}

@@ -1,6 +1,6 @@
 -- The begin of an insert, as a case: the job begins, its claim is lost, or the command that its row works for is
 -- logged.
-use Rattle.std.proofs.Common.{◌≡◌, ℕ, ◌<◌, Bool, true, false, List, [], length, Option, Some, None}
+use Rattle.std.proofs.Common.{◌≡◌, ℕ, ◌<◌, Bool, true, false, List, [], length, Some, None}
 use Rattle.std.proofs.Common.{refl, sym, ◌∙◌, ap}
 use Rattle.std.specs.Prelude.{is_some, slice_index_or, slice_set}
 use Rattle.page_disk.specs.declared.disk.PageDisk.{Ghosts}

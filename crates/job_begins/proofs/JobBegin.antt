@@ -7,9 +7,8 @@ use Rattle.running_store.specs.Effects.{commit_by, is_renewed, live_behind, AreE
 use Rattle.std.specs.Prelude.{if◌then◌else◌, is_some, not, slice_index_or, slice_set}
 use Rattle.std.proofs.lemmas.List.{get_or_default}
 use Rattle.page_disk.specs.declared.disk.PageDisk.{Ghosts}
-use Rattle.pools.specs.Pool.{clear_in, PoolState}
+use Rattle.pools.specs.Pool.{clear_in}
 use Rattle.super_block.specs.Numbers.{cluster_pages_of}
-use Rattle.volume_model.specs.Xattrs.{Xattrs}
 use Rattle.volume_model.specs.declared.command.Command.{Command}
 use Rattle.volume_model.specs.declared.reply.Reply.{Reply}
 use Rattle.volume_model.specs.declared.reply.Reply.TheVariants as r
@@ -45,12 +44,6 @@ pub indexed_row : (rows : List Row) (channel : ℕ) → channel < length rows �
     → row ≡ slice_index_or rows channel row → row ≡ rows_of rows channel
 indexed_row rows channel low row is =
     is ∙ get_or_default rows channel row (record { left = []; stage = Ended; claim = None }) low
-
--- a pool is its places and its claims
-pub same_pool : (p q : PoolState) → p.bits ≡ q.bits → p.claims ≡ q.claims → p ≡ q
-same_pool p q bits claims =
-    ap (λ (b : List Bool). record { bits = b; claims = p.claims }) bits
-    ∙ ap (λ (l : List ℕ). record { bits = q.bits; claims = l }) claims
 
 -- ---- why a job doesn't begin
 

@@ -5,6 +5,7 @@ use Rattle.std.specs.List.{AllByRecursion, IsDistinct}
 use Rattle.std.proofs.lemmas.Bool.{cases_Bool, cases_lt, both_ways, ne_eqb}
 use Rattle.std.proofs.lemmas.List.{ext_get_or}
 use Rattle.bit_array.specs.Bits.{is_in, IsLeastClear}
+use Rattle.pools.specs.Pool.{PoolState}
 use Rattle.descriptors.specs.declared.item.Item.{Item}
 use Rattle.md_chain.specs.Chain.{is_among}
 use Rattle.md_chain.specs.Planned.{pages_from}
@@ -21,11 +22,11 @@ module _ (bits : List Bool) (fresh : List ℕ) (least : AreLeastClear bits fresh
   low : AllBelow (length bits) fresh
   low = λ x among. (were_clear bits fresh least x among).below
 
-  pub taken_in_use : All (λ x. is_in (all_set bits fresh true) x ≡ true) fresh
-  taken_in_use k d lt = all_set_in bits fresh true (get_or fresh k d) low (among_get fresh k d lt)
+  in_use : All (λ x. is_in (all_set bits fresh true) x ≡ true) fresh
+  in_use k d lt = all_set_in bits fresh true (get_or fresh k d) low (among_get fresh k d lt)
 
-  pub clear_again : all_set (all_set bits fresh true) fresh false ≡ bits
-  clear_again =
+  back : all_set (all_set bits fresh true) fresh false ≡ bits
+  back =
       let twice = all_set (all_set bits fresh true) fresh false in
       let long : length twice ≡ length bits =
       length_all_set (all_set bits fresh true) fresh false ∙ length_all_set bits fresh true in
@@ -36,6 +37,26 @@ module _ (bits : List Bool) (fresh : List ℕ) (least : AreLeastClear bits fresh
             ∙ sym (were_clear bits fresh least k among).clear
         | inr out ↦ all_set_out (all_set bits fresh true) fresh false k out ∙ all_set_out bits fresh true k out
       ])
+
+  -- once they are taken they are in use,
+  pub taken_in_use : (now : List Bool) → now ≡ all_set bits fresh true → All (λ x. is_in now x ≡ true) fresh
+  taken_in_use now taken = subst (λ (l : List Bool). All (λ x. is_in l x ≡ true) fresh) (sym taken) in_use
+
+  -- and cleared again they leave what was before
+  pub clear_again : (now new : List Bool) → now ≡ all_set bits fresh true → new ≡ all_set now fresh false → new ≡ bits
+  clear_again now new taken cleared = cleared ∙ ap (λ (l : List Bool). all_set l fresh false) taken ∙ back
+
+-- a pool is its places and its claims
+pub same_pool : (p q : PoolState) → p.bits ≡ q.bits → p.claims ≡ q.claims → p ≡ q
+same_pool p q bits claims =
+    ap (λ (b : List Bool). record { bits = b; claims = p.claims }) bits
+    ∙ ap (λ (l : List ℕ). record { bits = q.bits; claims = l }) claims
+
+-- a pool of which places were taken is as it was once they are clear again
+pub pool_again : (old new : PoolState) (fresh : List ℕ) → AreLeastClear old.bits fresh → (now : List Bool)
+    → now ≡ all_set old.bits fresh true → new.bits ≡ all_set now fresh false → new.claims ≡ old.claims → new ≡ old
+pool_again old new fresh least now taken cleared claims =
+    same_pool new old (clear_again old.bits fresh least now new.bits taken cleared) claims
 
 -- ---- places of a chain that differ
 

@@ -41,4 +41,5 @@ pub mod ListParts
 pub mod DeletionAsked
 pub mod DeletionLaid
 pub mod DeletionBegins
+pub mod PassedOn
 mod ChainFound

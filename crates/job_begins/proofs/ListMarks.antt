@@ -11,7 +11,8 @@ use Rattle.blob_meta.specs.Resolving.{mark_of}
 use Rattle.snapshots.specs.Marks.{id_bytes, with_named}
 use Rattle.snapshots.specs.SnapshotJobs.{emptied_volume, filled_snapshot}
 use Rattle.inflate_delete.specs.DeleteJobs.{going_blob, heir_of}
-use Rattle.shown_volumes.proofs.Valued.{mark_given, mark_named, value_set}
+use Rattle.volume_model.proofs.Told.{value_set}
+use Rattle.shown_volumes.proofs.Valued.{mark_given, mark_named}
 use Rattle.store_model.proofs.Resolved.{unmarked_resolved}
 use Rattle.running_store.specs.StoreView.{base_of, AreResolved}
 

@@ -17,45 +17,13 @@ use Rattle.shown_volumes.proofs.EmptyMaps.{empty_slot}
 use Rattle.shown_volumes.proofs.HeirMaps.{filled_within, long_over, slot_over}
 use Rattle.store_model.specs.Jobs.{MovesClusters}
 use Rattle.store_model.specs.Maps.{Metas, with_entry, without_entry}
-use Rattle.store_model.specs.Places.{all_set, IsMapped}
+use Rattle.store_model.specs.Places.{all_set}
 use Rattle.store_model.specs.Steady.{AreStored}
 use Rattle.store_model.proofs.Sets.{AllBelow}
 use Rattle.store_model.proofs.WithEntry.{given_elsewhere, given_here}
 use Rattle.job_begins.specs.Alone.{IsMappedBeside, IsMissing}
-use Rattle.job_begins.proofs.ClustersAlone.{erased_moves, moves_same, set_with}
+use Rattle.job_begins.proofs.ClustersAlone.{erased_moves, moves_none, moves_same, set_with}
 use Rattle.job_begins.proofs.CutClusters.{among_slots, in_slot}
-
--- New metadata of a blob moves no cluster, if those of the old are in maps behind it, and its own were in maps before.
-pub moves_none : (s : Super) (base : Metas) (head : ℕ) (new : Meta)
-    → ((m : Meta) (place c : ℕ) → base head ≡ Some m → slot m place ≡ Some c → IsMapped (with_entry base head new) c)
-    → ((place c : ℕ) → slot new place ≡ Some c → IsMapped base c)
-    → MovesClusters s base (with_entry base head new) [] []
-moves_none s base head new stay had = record {
-  kept = λ c x. inl (elim (cases_eq x.head head) [
-    | inl e ↦ stay x.meta x.place c (sym (ap base e) ∙ x.there) x.in_slot
-    | inr ne ↦ record {
-      head = x.head;
-      meta = x.meta;
-      there = given_elsewhere base head new x.head ne ∙ x.there;
-      place = x.place;
-      in_slot = x.in_slot;
-    }
-  ]);
-  let_go = λ c bad. absurd (cc bad);
-  gained = λ c x. inl (elim (cases_eq x.head head) [
-    | inl e ↦
-        let one : new ≡ x.meta = let both = sym (given_here base head new x.head e) ∙ x.there in cc both in
-        had x.place c (ap (λ (m : Meta). slot m x.place) one ∙ x.in_slot)
-    | inr ne ↦ record {
-      head = x.head;
-      meta = x.meta;
-      there = sym (given_elsewhere base head new x.head ne) ∙ x.there;
-      place = x.place;
-      in_slot = x.in_slot;
-    }
-  ]);
-  filled = λ c bad. absurd (cc bad);
-}
 
 -- ---- a snapshot
 

@@ -11,6 +11,7 @@ use Rattle.bit_array.specs.Bits.{is_in}
 use Rattle.page_disk.specs.declared.disk.PageDisk.{Ghosts}
 use Rattle.super_block.specs.declared.page.Super.{Super}
 use Rattle.blob_meta.specs.declared.meta.Meta.{Meta}
+use Rattle.blob_meta.specs.Faults.{clusters_of}
 use Rattle.blob_meta.specs.Repairs.{after, HasHeadsBelow}
 use Rattle.blob_meta.specs.Resolving.{mark_of, resolved}
 use Rattle.blob_meta.proofs.RepairsInTurn.{repaired_resolves}
@@ -89,6 +90,11 @@ module _ {D : Type 0} (d : Ghosts D) (p : StoreView D) (running : IsRunning (sta
       let at = in_slot m.map c among in
       within p.clusters c (well.clusters.mapped c
       (record { head = head; meta = m; there = there; place = at.i; in_slot = at.at }))
+
+  -- and so are those of one of them
+  pub room_for : (head : ℕ) (m : Meta) → s.base head ≡ Some m → (count : ℕ) → count ≡ length p.clusters → (k : ℕ)
+      → is_among k (clusters_of m.map) ≡ true → k < count
+  room_for head m there count count_is k among = subst (λ n. k < n) (sym count_is) (room head m k there among)
 
   module _ (no_job : p.job ≡ None) (head : ℕ) (due : IsDue s.super.md_len s.base head) where
     -- the repair that is due leaves what the metadata resolves to as it is

@@ -89,7 +89,7 @@ module _ (s : Super) (placed : IsPlaced s) (base : Metas) (chains : Chains) (bit
 
   -- the head is in use behind the first
   head_second : is_in second_bits head ≡ true
-  head_second = taken_in_use bits (head ∷ begun) least_begun 0 0 (omega arith)
+  head_second = taken_in_use bits (head ∷ begun) least_begun second_bits refl 0 0 (omega arith)
 
   head_fourth : is_in fourth_bits head ≡ true
   head_fourth = in_use_still third_bits emptied least_emptied head

@@ -31,7 +31,7 @@ use Rattle.running_store.specs.declared.replacements.Change.TheVariants as chang
 use Rattle.running_store.proofs.BaseBehind.{base_behind}
 use Rattle.running_store.proofs.Maps.{changed_given, insert_given, is_key, remove_given}
 use Rattle.running_store.proofs.Thawed.{released_is}
-use Rattle.job_views.specs.Replacing.{blobs_in, committing, replacing_for}
+use Rattle.job_views.specs.Replacing.{blobs_in, replacing_for}
 use Rattle.metadata_turns.specs.JobTurns.{guards_left}
 
 -- ---- generations and attributes

@@ -29,8 +29,8 @@ use Rattle.metadata_turns.proofs.JobFailed.{by_waiting, entry, fails_case, fails
 
 module _ {D : Type 0} (d : Ghosts D) (p : StoreView D) (j : JobState) (w : IsAtWork d p j)
     (seventeen : length p.rows ≡ 17) (disk : D) (fails : FailsToReplace (device_of d p.disk) (device_of d disk))
-    (q : StoreView D)
-    (failed : HasFailed j.freeze (waits_for_job j) (record p { disk = disk }) q (d.clock q.disk))
+    (q : StoreView D) {told : Option ℕ} (told_is : told ≡ waits_for_job j)
+    (failed : HasFailed j.freeze told (record p { disk = disk }) q (d.clock q.disk))
     (replacing : Replacing) (commit : Option Committing) (others : List Phase)
     (todo : j.todo ≡ Replaces replacing commit ∷ others)
     (touches : CallsLeaveOnly d p.disk disk (IsReplaced (d.images p.disk) (d.now p.disk)
@@ -40,7 +40,7 @@ module _ {D : Type 0} (d : Ghosts D) (p : StoreView D) (j : JobState) (w : IsAtW
 
   no_row : commit ≡ None → waits_for_job j ≡ None → TurnsJob d (with_job p j) q
   no_row no_commit none = subst (TurnsJob d (with_job p j)) (sym
-      (by_waiting d p j w seventeen disk fails q failed None none)) (record {
+      (by_waiting d p j w seventeen disk fails q told_is failed None none)) (record {
         kind = kind.more_breaks_off;
         of_job = tt;
         made = (
@@ -67,7 +67,7 @@ module _ {D : Type 0} (d : Ghosts D) (p : StoreView D) (j : JobState) (w : IsAtW
   at_commit channel serves c is =
       let waits : has_commit j.todo ≡ true = ap has_commit (todo_as (Some c) is) in
       subst (TurnsJob d (with_job p j)) (sym (entry d p j w channel serves waits disk q
-      (by_waiting d p j w seventeen disk fails q failed (Some channel)
+      (by_waiting d p j w seventeen disk fails q told_is failed (Some channel)
       (waits_for_commit j channel serves waits)))) (record {
         kind = kind.fails;
         of_job = tt;
@@ -82,7 +82,7 @@ module _ {D : Type 0} (d : Ghosts D) (p : StoreView D) (j : JobState) (w : IsAtW
       → has_commit j.todo ≡ b → TurnsJob d (with_job p j) q
   before_commit channel serves no_commit true waits = subst (TurnsJob d (with_job p j))
       (sym (entry d p j w channel serves waits disk q
-      (by_waiting d p j w seventeen disk fails q failed (Some channel)
+      (by_waiting d p j w seventeen disk fails q told_is failed (Some channel)
       (waits_for_commit j channel serves waits)))) (record {
         kind = kind.more_fails;
         of_job = tt;
@@ -105,7 +105,7 @@ module _ {D : Type 0} (d : Ghosts D) (p : StoreView D) (j : JobState) (w : IsAtW
   pub failed_for_insert : (row : ℕ) → j.serves ≡ ForInsert row → commit ≡ None → (new : Meta)
       → replacing.new ≡ Some new → TurnsJob d (with_job p j) q
   failed_for_insert at serves no_commit new new_is =
-      let given = by_waiting d p j w seventeen disk fails q failed (Some at)
+      let given = by_waiting d p j w seventeen disk fails q told_is failed (Some at)
       (ap (λ (x : Service). waiting x j.todo) serves) in
       record {
         kind = kind.insert_fails;
@@ -128,26 +128,27 @@ module _ {D : Type 0} (d : Ghosts D) (p : StoreView D) (x : Change) (old : List 
     (disk : D) (touched : TouchesHead d p (replacing_for x old) disk) where
   pub head_failed : (serves : Serves) → IsAtHead d p serves x old more j → length p.rows ≡ 17
       → FailsToReplace (device_of d p.disk) (device_of d disk) → (q : StoreView D)
-      → HasFailed j.freeze (waits_for_job j) (record p { disk = disk }) q (d.clock q.disk) → TurnsJob d (with_job p j) q
-  head_failed (whom.Command channel freeze) n seventeen fails q is =
-      failed_for_command d p j n.work seventeen disk fails q is (replacing_for x old) (committing x)
+      → {told : Option ℕ} → told ≡ waits_for_job j
+      → HasFailed j.freeze told (record p { disk = disk }) q (d.clock q.disk) → TurnsJob d (with_job p j) q
+  head_failed (whom.Command channel freeze) n seventeen fails q told_is failed =
+      failed_for_command d p j n.work seventeen disk fails q told_is failed (replacing_for x old) (committing x)
       (erasing old old more) n.todo touched channel n.serves_is
-  head_failed (whom.Insert channel) n seventeen fails q is = by x refl n.fits
+  head_failed (whom.Insert channel) n seventeen fails q told_is failed = by x refl n.fits
     where
       by : (y : Change) → x ≡ y → IsFor (whom.Insert channel) y → TurnsJob d (with_job p j) q
       by (changed.Writes planned) e fits =
-          failed_for_insert d p j n.work seventeen disk fails q is (replacing_for x old) (committing x)
+          failed_for_insert d p j n.work seventeen disk fails q told_is failed (replacing_for x old) (committing x)
           (erasing old old more) n.todo touched channel n.serves_is
           (ap committing e ∙ ap (option_map commit_seen) fits.1.commit) planned.new
           (ap (λ (y : Change). (replacing_for y old).new) e)
       by (changed.Erases erasure) e fits = absurd fits
-  head_failed whom.Repair n seventeen fails q is = by x refl n.fits
+  head_failed whom.Repair n seventeen fails q told_is failed = by x refl n.fits
     where
       by : (y : Change) → x ≡ y → IsFor whom.Repair y → TurnsJob d (with_job p j) q
       by (changed.Writes planned) e fits =
-          failed_for_repair d p j n.work seventeen disk fails q is (replacing_for x old) (committing x)
+          failed_for_repair d p j n.work seventeen disk fails q told_is failed (replacing_for x old) (committing x)
           (erasing old old more) n.todo touched n.serves_is
           (ap committing e ∙ ap (option_map commit_seen) fits.1.commit)
       by (changed.Erases erasure) e fits =
-          failed_for_repair d p j n.work seventeen disk fails q is (replacing_for x old) (committing x)
+          failed_for_repair d p j n.work seventeen disk fails q told_is failed (replacing_for x old) (committing x)
           (erasing old old more) n.todo touched n.serves_is (ap committing e ∙ ap (option_map commit_seen) fits.1)

@@ -20,7 +20,7 @@ use Rattle.store_model.specs.Recovers.{SaysInUse}
 use Rattle.store_model.specs.Rows.{InJob, Row, Answered, Decided, fill_row}
 use Rattle.store_model.specs.StoreState.{ForCommand, ForInsert, ForRepair, JobState, logged, Service, StoreState}
 use Rattle.store_model.specs.StoreState.{waiting}
-use Rattle.store_model.specs.Touches.{puts, replaces, Touched}
+use Rattle.store_model.specs.Touches.{DoesTouch}
 use Rattle.store_model.proofs.Shaped.{waits_for_commit, waits_no_more}
 use Rattle.running_store.specs.Jobs.{waits_for_job}
 use Rattle.running_store.specs.Steps.{logged_at}
@@ -116,8 +116,9 @@ module _ {D : Type 0} (d : Ghosts D) (p : StoreView D) (j : JobState) (w : IsAtW
   -- ---- what waits
 
   -- the row of the channel that waits for it
-  pub waiting_row : length p.rows ≡ 17 → HasWaitingRow p.filling p.rows (waits_for_job j)
-  waiting_row seventeen = by j.serves refl (has_commit j.todo) refl
+  pub waiting_row : length p.rows ≡ 17 → {row : Option ℕ} → row ≡ waits_for_job j → HasWaitingRow p.filling p.rows row
+  waiting_row seventeen row_is =
+      subst (HasWaitingRow p.filling p.rows) (sym row_is) (by j.serves refl (has_commit j.todo) refl)
     where
       by : (x : Service) → j.serves ≡ x → (b : Bool) → has_commit j.todo ≡ b
           → HasWaitingRow p.filling p.rows (waits_for_job j)
@@ -137,23 +138,32 @@ module _ {D : Type 0} (d : Ghosts D) (p : StoreView D) (j : JobState) (w : IsAtW
           subst (HasWaitingRow p.filling p.rows) (sym (ap (λ (x : Service). waiting x j.todo) serves)) tt
 
   module _ (seventeen : length p.rows ≡ 17) (disk : D)
-      (fails : FailsToReplace (device_of d p.disk) (device_of d disk)) (q : StoreView D)
-      (failed : HasFailed j.freeze (waits_for_job j) (record p { disk = disk }) q (d.clock q.disk)) where
+      (fails : FailsToReplace (device_of d p.disk) (device_of d disk)) (q : StoreView D) {told : Option ℕ}
+      (told_is : told ≡ waits_for_job j)
+      (failed : HasFailed j.freeze told (record p { disk = disk }) q (d.clock q.disk)) where
     pub by_waiting : (o : Option ℕ) → waits_for_job j ≡ o
         → HasFailed j.freeze o (record p { disk = disk }) q (d.clock q.disk)
     by_waiting o is =
-        subst (λ (x : Option ℕ). HasFailed j.freeze x (record p { disk = disk }) q (d.clock q.disk)) is failed
+        subst (λ (x : Option ℕ). HasFailed j.freeze x (record p { disk = disk }) q (d.clock q.disk)) (told_is ∙ is)
+        failed
 
     stopped : state_of d (stopped_at (record p { disk = disk }) j.freeze)
         ≡ record s { stopped = Some (length p.log); job = None; frozen = λ head. false; device = device_of d disk }
     stopped = stopped_state d p j w disk
 
-    -- ---- a page that was being written
+    -- ---- what was being written
 
-    module _ (phase : Phase) (others : List Phase) (todo : j.todo ≡ phase ∷ others) (put : PlannedPage)
-        (is_put : put_by j phase ≡ Some put)
-        (touches : CallsLeaveOnly d p.disk disk
-        (Written (d.images p.disk) (p.super.md_start + put.place) Plain put.page)) where
+    -- of a command's job, and of an insert's, the same may be
+    abbrev by_command : {phase : Phase} → alone.TriedAlone s.super j phase → Tried s.super j phase
+    by_command (alone.mark page is says) = fail.mark page is says
+    by_command (alone.page put is) = fail.page put is
+
+    abbrev by_insert : {phase : Phase} → alone.TriedAlone s.super j phase → insert.TriedInsert s.super j phase
+    by_insert (alone.mark page is says) = insert.mark page is says
+    by_insert (alone.page put is) = insert.page put is
+
+    module _ (phase : Phase) (others : List Phase) (todo : j.todo ≡ phase ∷ others)
+        (tried : alone.TriedAlone s.super j phase) (touched : DoesTouch d p.disk disk (alone.tried_alone s tried)) where
       none_waits : waits_for_job j ≡ None → TurnsJob d (with_job p j) q
       none_waits none = subst (TurnsJob d (with_job p j)) (sym (by_waiting None none)) (record {
         kind = kind.breaks_off;
@@ -163,17 +173,34 @@ module _ {D : Type 0} (d : Ghosts D) (p : StoreView D) (j : JobState) (w : IsAtW
             phase = phase;
             running = record { job = j; is = refl; rest = others; next = todo; runs = w.not_stopped };
             waits = none;
-            tried = alone.page put is_put;
+            tried = tried;
             device = device_of d disk;
             fails = fails;
             next = stopped;
           },
-          record { moments = touches; durable = λ never. absurd (cc never) },
+          touched,
         );
       })
 
-      pub failed_putting : TurnsJob d (with_job p j) q
-      failed_putting = by j.serves refl (has_commit j.todo) refl
+      -- the touch is the same whomever the job is for
+      for_command : DoesTouch d p.disk disk (fail.tried_at s (by_command tried))
+      for_command = by tried touched
+        where
+          by : (t : alone.TriedAlone s.super j phase) → DoesTouch d p.disk disk (alone.tried_alone s t)
+              → DoesTouch d p.disk disk (fail.tried_at s (by_command t))
+          by (alone.mark page is says) x = x
+          by (alone.page put is) x = x
+
+      for_insert : DoesTouch d p.disk disk (insert.tried_insert s (by_insert tried))
+      for_insert = by tried touched
+        where
+          by : (t : alone.TriedAlone s.super j phase) → DoesTouch d p.disk disk (alone.tried_alone s t)
+              → DoesTouch d p.disk disk (insert.tried_insert s (by_insert t))
+          by (alone.mark page is says) x = x
+          by (alone.page put is) x = x
+
+      failed_trying : TurnsJob d (with_job p j) q
+      failed_trying = by j.serves refl (has_commit j.todo) refl
         where
           by : (x : Service) → j.serves ≡ x → (b : Bool) → has_commit j.todo ≡ b → TurnsJob d (with_job p j) q
           by (ForCommand channel) serves true commit = subst (TurnsJob d (with_job p j))
@@ -182,8 +209,8 @@ module _ {D : Type 0} (d : Ghosts D) (p : StoreView D) (j : JobState) (w : IsAtW
                 kind = kind.fails;
                 of_job = tt;
                 made = (
-                  fails_case channel serves commit disk phase others todo (fail.page put is_put) fails,
-                  record { moments = touches; durable = λ never. absurd (cc never) },
+                  fails_case channel serves commit disk phase others todo (by_command tried) fails,
+                  for_command,
                 );
               })
           by (ForCommand channel) serves false commit = none_waits (waits_no_more j channel serves commit)
@@ -193,63 +220,26 @@ module _ {D : Type 0} (d : Ghosts D) (p : StoreView D) (j : JobState) (w : IsAtW
                 kind = kind.insert_fails;
                 of_job = tt;
                 made = (
-                  fails_insert d p j w channel serves seventeen disk q given phase others todo (insert.page put is_put)
-                      fails,
-                  subst (λ (x : D). Touched d p.disk x (puts (p.super.md_start + put.place) put.page false))
-                      (sym (insert_disk d p j w channel serves seventeen disk q given))
-                      (record { moments = touches; durable = λ never. absurd (cc never) }),
+                  fails_insert d p j w channel serves seventeen disk q given phase others todo (by_insert tried) fails,
+                  subst (λ (x : D). DoesTouch d p.disk x (insert.tried_insert s (by_insert tried)))
+                      (sym (insert_disk d p j w channel serves seventeen disk q given)) for_insert,
                 );
               }
           by ForRepair serves b commit = none_waits (ap (λ (x : Service). waiting x j.todo) serves)
 
-    -- ---- the super block that was being replaced
+    -- a page,
+    pub failed_putting : (phase : Phase) (others : List Phase) → j.todo ≡ phase ∷ others → (put : PlannedPage)
+        → put_by j phase ≡ Some put
+        → CallsLeaveOnly d p.disk disk (Written (d.images p.disk) (p.super.md_start + put.place) Plain put.page)
+        → TurnsJob d (with_job p j) q
+    failed_putting phase others todo put is_put touches =
+        failed_trying phase others todo (alone.page put is_put)
+        (record { moments = touches; durable = λ never. absurd (cc never) })
 
-    module _ (others : List Phase) (todo : j.todo ≡ Marks ∷ others) (page : List ℕ) (says : SaysInUse p.super page)
-        (touches : CallsLeaveOnly d p.disk disk (IsReplaced (d.images p.disk) (d.now p.disk) 0 page)) where
-      mark_alone : waits_for_job j ≡ None → TurnsJob d (with_job p j) q
-      mark_alone none = subst (TurnsJob d (with_job p j)) (sym (by_waiting None none)) (record {
-        kind = kind.breaks_off;
-        of_job = tt;
-        made = (
-          record {
-            phase = Marks;
-            running = record { job = j; is = refl; rest = others; next = todo; runs = w.not_stopped };
-            waits = none;
-            tried = alone.mark page refl says;
-            device = device_of d disk;
-            fails = fails;
-            next = stopped;
-          },
-          record { moments = touches; durable = λ never. absurd (cc never) },
-        );
-      })
-
-      pub failed_marking : TurnsJob d (with_job p j) q
-      failed_marking = by j.serves refl (has_commit j.todo) refl
-        where
-          by : (x : Service) → j.serves ≡ x → (b : Bool) → has_commit j.todo ≡ b → TurnsJob d (with_job p j) q
-          by (ForCommand channel) serves true commit = subst (TurnsJob d (with_job p j))
-              (sym (entry channel serves commit disk q
-              (by_waiting (Some channel) (waits_for_commit j channel serves commit)))) (record {
-                kind = kind.fails;
-                of_job = tt;
-                made = (
-                  fails_case channel serves commit disk Marks others todo (fail.mark page refl says) fails,
-                  record { moments = touches; durable = λ never. absurd (cc never) },
-                );
-              })
-          by (ForCommand channel) serves false commit = mark_alone (waits_no_more j channel serves commit)
-          by (ForInsert channel) serves b commit =
-              let given = by_waiting (Some channel) (ap (λ (x : Service). waiting x j.todo) serves) in
-              record {
-                kind = kind.insert_fails;
-                of_job = tt;
-                made = (
-                  fails_insert d p j w channel serves seventeen disk q given Marks others todo
-                      (insert.mark page refl says) fails,
-                  subst (λ (x : D). Touched d p.disk x (replaces 0 page false))
-                      (sym (insert_disk d p j w channel serves seventeen disk q given))
-                      (record { moments = touches; durable = λ never. absurd (cc never) }),
-                );
-              }
-          by ForRepair serves b commit = mark_alone (ap (λ (x : Service). waiting x j.todo) serves)
+    -- or the super block, which was being replaced
+    pub failed_marking : (others : List Phase) → j.todo ≡ Marks ∷ others → (page : List ℕ) → SaysInUse p.super page
+        → CallsLeaveOnly d p.disk disk (IsReplaced (d.images p.disk) (d.now p.disk) 0 page)
+        → TurnsJob d (with_job p j) q
+    failed_marking others todo page says touches =
+        failed_trying Marks others todo (alone.mark page refl says)
+        (record { moments = touches; durable = λ never. absurd (cc never) })

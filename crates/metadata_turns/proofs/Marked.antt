@@ -1,11 +1,11 @@
 -- The store is marked as in use, before all else that a job does.
-use Rattle.std.proofs.Common.{◌≡◌, List, ℕ, ◌∷◌, Bool, true, false, Some, IsTrue, refl, sym, ap, ◌∙◌, subst}
+use Rattle.std.proofs.Common.{◌≡◌, List, ℕ, ◌∷◌, Bool, true, false, Some, IsTrue, refl, ap}
 use Rattle.page_disk.specs.Disk.{Only}
 use Rattle.page_disk.specs.Moments.{CallsLeaveOnly, IsReplaced}
 use Rattle.page_disk.specs.declared.disk.PageDisk.{Ghosts}
 use Rattle.store_model.specs.Cases.{WritesOnePage}
 use Rattle.store_model.specs.Cases as kind
-use Rattle.store_model.specs.Phases.{marking, Marks, Phase}
+use Rattle.store_model.specs.Phases.{marking, Marks}
 use Rattle.store_model.specs.Recovers.{SaysInUse}
 use Rattle.store_model.specs.StoreState.{JobState}
 use Rattle.running_store.specs.Jobs.{freeze_of, job_seen}

@@ -116,15 +116,15 @@ module _ {D : Type 0} (d : Ghosts D) (p : StoreView D) (serves : Serves) (planne
     touched = subst (λ n. CallsLeaveOnly d p.disk disk (Written (d.images p.disk) n Plain zero_page)) at_is touches
 
     pub failed_zeroing : FailsToReplace (device_of d p.disk) (device_of d disk) → (q : StoreView D)
-        → HasFailed j.freeze (waits_for_job j) (record p { disk = disk }) q (d.clock q.disk)
-        → TurnsJob d (with_job p j) q
-    failed_zeroing fails q is = by serves refl
+        → {told : Option ℕ} → told ≡ waits_for_job j
+        → HasFailed j.freeze told (record p { disk = disk }) q (d.clock q.disk) → TurnsJob d (with_job p j) q
+    failed_zeroing fails q told_is failed = by serves refl
       where
         by : (x : Serves) → serves ≡ x → TurnsJob d (with_job p j) q
         by (whom.Command channel freeze) e =
             let for_command : j.serves ≡ ForCommand channel = ap service_of e in
             let given = subst (λ (o : Option ℕ). HasFailed j.freeze o (record p { disk = disk }) q (d.clock q.disk))
-            (waits_for_commit j channel for_command waits) is in
+            (told_is ∙ waits_for_commit j channel for_command waits) failed in
             subst (TurnsJob d (with_job p j)) (sym (entry d p j w channel for_command waits disk q given)) (record {
               kind = kind.fails;
               of_job = tt;

@@ -25,7 +25,8 @@ use Rattle.shown_volumes.proofs.HeirMaps.{long_over}
 use Rattle.shown_volumes.proofs.Marked.{as_before, by_mark, given_other, given_same}
 use Rattle.shown_volumes.proofs.SnapshotParts.{low_head}
 use Rattle.shown_volumes.proofs.SlotSums.{slots_at_most, slots_in}
-use Rattle.shown_volumes.proofs.Valued.{mark_given, parent_given, value_set, without_none, without_set}
+use Rattle.volume_model.proofs.Told.{value_set}
+use Rattle.shown_volumes.proofs.Valued.{mark_given, parent_given, without_none, without_set}
 use Rattle.shown_volumes.proofs.WithEntry.{given_cases, given_elsewhere, given_here, gone_elsewhere, gone_here}
 
 module _ (f : Fixed) (base : Metas) (rest : IsAtRest f base) (of clone : ℕ) (old heir : Meta)

@@ -40,7 +40,8 @@ use Rattle.shown_volumes.proofs.Inside.{inside_slot, IsInside, none_of_map}
 use Rattle.shown_volumes.proofs.MapTests.{all_filled, all_inside, clear_flags, known_flags, slot_filled}
 use Rattle.shown_volumes.proofs.SnapshotShows.{thin_given, thin_set}
 use Rattle.shown_volumes.proofs.StoredFills.{fill_stored}
-use Rattle.shown_volumes.proofs.Valued.{parent_named, value_beside, value_set}
+use Rattle.volume_model.proofs.Told.{value_beside, value_set}
+use Rattle.shown_volumes.proofs.Valued.{parent_named}
 
 -- no attributes
 no_marks : AreGood []

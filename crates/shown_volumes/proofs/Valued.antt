@@ -1,4 +1,4 @@
--- The values of attributes once one is set or taken away; and the heads that ids name.
+-- What attributes say once one is taken away, and which marks and parents they name.
 use Rattle.std.proofs.Common.{◌≡◌, ℕ, ◌+◌, ◌-◌, ◌<◌, ◌^◌, true, false, Option, Some, None, [], ◌∷◌, refl, sym, ap, ◌∙◌}
 use Rattle.std.proofs.Common.{inl, inr, arith}
 use Rattle.std.specs.Prelude.{codes, nat_lt, if◌then◌else◌}
@@ -10,16 +10,12 @@ use Rattle.std.proofs.lemmas.Slice.Eq.{bytes_eq-Decides}
 use Rattle.page_fields.proofs.Laws.{number_is}
 use Rattle.volume_model.specs.Xattrs.{Text, Xattrs, value_of, with_value, without}
 use Rattle.volume_model.specs.declared.text.Xattr.{Xattr}
+use Rattle.volume_model.proofs.Told.{value_beside, value_set, value_without}
 use Rattle.blob_meta.specs.declared.meta.Meta.{Meta}
 use Rattle.blob_meta.specs.Parents.{head_of_id, named_in, parent_of}
 use Rattle.snapshots.specs.Marks.{id_bytes, with_named, with_parent_of}
 
 -- ---- one key
-
--- an attribute of the key isn't one of another key
-unlike : (x : Xattr) (key other : Text) → bytes_eq key other ≡ false → bytes_eq x.key key ≡ true
-    → bytes_eq x.key other ≡ false
-unlike x key other apart same = ap (λ k. bytes_eq k other) ((bytes_eq-Decides x.key key).0 same) ∙ apart
 
 -- an attribute of another key at the front is passed
 passed : (x : Xattr) (xs : Xattrs) (other : Text) → bytes_eq x.key other ≡ false
@@ -31,45 +27,7 @@ found_first : (x : Xattr) (xs : Xattrs) (key : Text) → bytes_eq x.key key ≡ 
     → value_of (x ∷ xs) key ≡ Some x.value
 found_first x xs key same = rw same refl
 
--- two lists that begin alike
-begins_alike : (x : Xattr) (xs ys : Xattrs) (other : Text) → value_of xs other ≡ value_of ys other
-    → value_of (x ∷ xs) other ≡ value_of (x ∷ ys) other
-begins_alike x xs ys other e = elim (cases_Bool (bytes_eq x.key other)) [
-  | inl here ↦ rw here refl
-  | inr apart ↦ passed x xs other apart ∙ e ∙ sym (passed x ys other apart)
-]
-
--- the value that is set is the key's,
-pub value_set : (xs : Xattrs) (key value : Text) → value_of (with_value xs key value) key ≡ Some value
-value_set [] key value = found_first (record { key = key; value = value }) [] key ((bytes_eq-Decides key key).1 refl)
-value_set (x ∷ xs) key value = elim (cases_Bool (bytes_eq x.key key)) [
-  | inl same ↦ rw same (found_first (record x { value = value }) xs key same)
-  | inr differs ↦ rw differs (passed x (with_value xs key value) key differs ∙ value_set xs key value)
-]
-
--- and another key's is as it was,
-pub value_beside : (xs : Xattrs) (key value other : Text) → bytes_eq key other ≡ false
-    → value_of (with_value xs key value) other ≡ value_of xs other
-value_beside [] key value other apart = passed (record { key = key; value = value }) [] other apart
-value_beside (x ∷ xs) key value other apart = elim (cases_Bool (bytes_eq x.key key)) [
-  | inl same ↦
-      let ne = unlike x key other apart same in
-      rw same (passed (record x { value = value }) xs other ne ∙ sym (passed x xs other ne))
-  | inr differs ↦ rw differs
-      (begins_alike x (with_value xs key value) xs other (value_beside xs key value other apart))
-]
-
--- as it is where one is taken away,
-pub value_without : (xs : Xattrs) (key other : Text) → bytes_eq key other ≡ false
-    → value_of (without xs key) other ≡ value_of xs other
-value_without [] key other apart = refl
-value_without (x ∷ xs) key other apart = elim (cases_Bool (bytes_eq x.key key)) [
-  | inl same ↦ rw same
-      (value_without xs key other apart ∙ sym (passed x xs other (unlike x key other apart same)))
-  | inr differs ↦ rw differs (begins_alike x (without xs key) xs other (value_without xs key other apart))
-]
-
--- which has no value then
+-- a key that is taken away has no value then
 pub none_without : (xs : Xattrs) (key : Text) → value_of (without xs key) key ≡ None
 none_without [] key = refl
 none_without (x ∷ xs) key = elim (cases_Bool (bytes_eq x.key key)) [

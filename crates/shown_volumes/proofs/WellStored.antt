@@ -24,7 +24,8 @@ use Rattle.shown_volumes.specs.StoredLaws.{IsStoredWell}
 use Rattle.shown_volumes.proofs.EmptyMaps.{none_in}
 use Rattle.shown_volumes.proofs.MapTests.{all_pass, passes}
 use Rattle.shown_volumes.proofs.GoodMarks.{AreGood, good_of, none_bad, without_good}
-use Rattle.shown_volumes.proofs.Valued.{none_without, parent_given, parent_without, snap_given, value_without}
+use Rattle.volume_model.proofs.Told.{value_without}
+use Rattle.shown_volumes.proofs.Valued.{none_without, parent_given, parent_without, snap_given}
 
 -- All that is asked of metadata which the store holds.
 pub record MeetsTests (s : Super) (head : ℕ) (m : Meta) : Type 0 where

@@ -1,19 +1,18 @@
 -- A store that stops in a turn of a job whose command waits for the commit: the command is logged as failed.
-use Rattle.std.proofs.Common.{◌≡◌, [], ◌∷◌, length, None, true, refl, subst, sym, ap, arith, length-append}
+use Rattle.std.proofs.Common.{◌≡◌, None, true, refl, subst, sym, ap}
 use Rattle.volume_model.specs.declared.reply.Reply.TheVariants as r
 use Rattle.store_model.specs.Device.{Device}
 use Rattle.store_model.specs.Jobs.{ReadsZeros}
 use Rattle.store_model.specs.Phases.{has_commit, Phase}
-use Rattle.store_model.specs.Rows.{Answered, Decided, entry_of, Row}
+use Rattle.store_model.specs.Rows.{Answered, Decided, Row}
 use Rattle.store_model.specs.RunInvariant.{RunInvariant}
 use Rattle.store_model.specs.StoreState.{logged, StoreState}
 use Rattle.store_model.specs.Turning.{FailsToReplace, IsServedNow, Runs, stopped_now}
-use Rattle.store_model.proofs.Guarding.{none_guarded}
+use Rattle.store_model.proofs.FailedCommands.{failed_keeps}
 use Rattle.store_model.proofs.JobKept.{no_other, served_does}
 use Rattle.store_model.proofs.Known.{Known}
 use Rattle.store_model.proofs.LeftToDo.{may_fail}
 use Rattle.store_model.proofs.Shaped.{decided_may, shaped_with, waits_for_commit}
-use Rattle.store_model.proofs.StateKept.{allowed_here, log_kept, LogKept}
 
 module _ (known : Known) {phase : Phase} (running : Runs known.p phase) (now_served : IsServedNow known.p running.job)
     (ahead : has_commit running.job.todo ≡ true) (device : Device) (fails : FailsToReplace known.p.device device) where
@@ -26,33 +25,13 @@ module _ (known : Known) {phase : Phase} (running : Runs known.p phase) (now_ser
       → RunInvariant s first script q
   command_stops q next =
       let j = running.job in
-      let base : StoreState = record (stopped_now p) { job = None } in
-      let now : StoreState = logged base channel command rest r.Fault device in
+      let now : StoreState = logged (record (stopped_now p) { job = None }) channel command rest r.Fault device in
       let may = may_fail (ReadsZeros p.super j.claimed) p.super p.base p.live command j.todo
       (served_does known j running.is running.runs now_served ahead) p.device.reads in
-      let kept : LogKept known now =
-      log_kept known (Decided Answered) base channel command rest r.Fault device refl refl refl refl
-      (ap (λ (r : Row). r.left) row) fails.clock (allowed_here known command r.Fault running.runs may) in
-      let done : RunInvariant s first script now =
-      record {
-        super = facts.super;
-        stored = facts.stored;
-        named = facts.named;
-        few = facts.few;
-        lawful = facts.lawful;
-        legal = kept.legal;
-        well = λ runs. absurd (cc runs);
-        way = kept.way;
-        shaped = shaped_with p facts.shaped now channel _ refl
-            (no_other known j running.is channel (waits_for_commit j channel serves ahead) now)
-            (decided_may now channel rest)
-            (λ job c bad serves waits. absurd (cc bad));
-        guarded = none_guarded now (λ head. refl);
-        counted = kept.counted;
-        past = kept.past;
-        halted = λ at is.
-            let e : length p.log ≡ at = cc is in
-            omega (arith, e, length-append p.log (entry_of p.log channel command r.Fault ∷ []));
-        unfinished = λ job is. absurd (cc is);
-      } in
-      subst (RunInvariant s first script) (sym next) done
+      subst (RunInvariant s first script) (sym next)
+      (failed_keeps known channel command rest device (Decided Answered) None (ap (λ (r : Row). r.left) row) running.runs
+      fails.clock may
+      (shaped_with p facts.shaped now channel _ refl
+      (no_other known j running.is channel (waits_for_commit j channel serves ahead) now) (decided_may now channel rest)
+      (λ job c bad serves waits. absurd (cc bad)))
+      (λ job is. absurd (cc is)))

@@ -111,7 +111,7 @@ module _ (known : Known) (runs : known.p.stopped ≡ None) (row : ℕ) (claim : 
           (λ theirs n wanted under. slots_still theirs.head (theirs.slot * k + n))
 
       pub claimed_facts : p.device.clock ≤ d.clock → RunInvariant s first script (record p { device = d })
-      claimed_facts later = device_by known d shown_still (λ _. copied_too) (λ n among. same n (λ e.
+      claimed_facts later = device_by known p.filling d shown_still (λ _. copied_too) (λ n among. same n (λ e.
           let at : n / k ≡ claim.cluster = ap (λ m. m / k) e ∙ div-mul-add claim.cluster k page low in
           both_ways (is_among claim.cluster (claimed_by p.job)) (well.claims.job row claim held)
           (subst (λ m. is_among m (claimed_by p.job) ≡ true) at among))) later

@@ -4,7 +4,7 @@ use Rattle.std.specs.Prelude.{ℕ, ◌/◌, true}
 use Rattle.md_chain.specs.Chain.{is_among}
 use Rattle.super_block.specs.Numbers.{cluster_pages_of}
 use Rattle.store_model.specs.Places.{claimed_by}
-use Rattle.std.proofs.Common.{◌≡◌, ◌≤◌, None, refl, sym, ap, ◌∙◌, subst, arith}
+use Rattle.std.proofs.Common.{◌≡◌, ◌≤◌, None, Option, refl, sym, ap, ◌∙◌, subst, arith}
 use Rattle.std.proofs.lemmas.List.Elements.{All-weaker}
 use Rattle.volume_model.specs.Volumes.{Volumes}
 use Rattle.volume_model.specs.Steps.{Allowed}
@@ -34,14 +34,14 @@ module _ (known : Known) where
       ap (λ i. shown (record p { device = record d { reads = i } })) reads in
       subst (λ (v : Volumes). Allowed (fixed_of p.super) v command reply) (sym same) allowed
 
-  -- the device goes on, and what is read shows the same volumes, and what was copied
-  pub device_by : (d : Device) → shown (record p { device = d }) ≡ shown p
-      → (p.stopped ≡ None → AreCopied (record p { device = d }))
+  -- the device goes on, and so may the fill: what is read shows the same volumes, and what was copied
+  pub device_by : (filling : Option ℕ) (d : Device) → shown (record p { device = d; filling = filling }) ≡ shown p
+      → (p.stopped ≡ None → AreCopied (record p { device = d; filling = filling }))
       → ((page : ℕ) → is_among (page / cluster_pages_of p.super) (claimed_by p.job) ≡ true
       → d.reads page ≡ p.device.reads page) → p.device.clock ≤ d.clock
-      → RunInvariant s first script (record p { device = d })
-  device_by d same copied zeroed later =
-      let now : StoreState = record p { device = d } in
+      → RunInvariant s first script (record p { device = d; filling = filling })
+  device_by filling d same copied zeroed later =
+      let now : StoreState = record p { device = d; filling = filling } in
       record {
         super = facts.super;
         stored = facts.stored;
@@ -77,10 +77,17 @@ module _ (known : Known) where
         unfinished = facts.unfinished;
       }
 
+  -- the fill's row works for another command, or for none
+  pub filling_facts : (filling : Option ℕ) → RunInvariant s first script (record p { filling = filling })
+  filling_facts filling = device_by filling p.device refl
+      (λ runs. copied_same p (record p { filling = filling }) (facts.well runs).copied refl refl refl
+      (λ row claim page x. x) refl)
+      (λ page among. refl) (omega arith)
+
   -- it reads what it read
   pub device_facts : (d : Device) → d.reads ≡ p.device.reads → p.device.clock ≤ d.clock
       → RunInvariant s first script (record p { device = d })
   device_facts d reads later =
-      device_by d (ap (λ i. shown (record p { device = record d { reads = i } })) reads)
+      device_by p.filling d (ap (λ i. shown (record p { device = record d { reads = i } })) reads)
       (λ runs. copied_same p (record p { device = d }) (facts.well runs).copied refl refl refl (λ row claim page x. x)
       reads) (λ page among. ap (λ (i : Image). i page) reads) later

@@ -2,26 +2,23 @@
 use Rattle.std.proofs.Common.{◌≡◌, ◌⊎◌, ℕ, zero, suc, ◌+◌, ◌<◌, ◌≤◌, Bool, true, false, List, [], ◌∷◌, length, None}
 use Rattle.std.proofs.Common.{Some}
 use Rattle.std.proofs.Common.{refl, sym, ap, ◌∙◌, subst, inl, inr, arith}
-use Rattle.std.specs.Prelude.{◌-◌, ◌==◌, if◌then◌else◌, drop, take}
-use Rattle.std.proofs.lemmas.Bool.{cases_Bool, cases_eq, eq-eqb, false≢true, ne_eqb}
+use Rattle.std.specs.Prelude.{◌-◌, if◌then◌else◌, drop, take}
+use Rattle.std.proofs.lemmas.Bool.{cases_eq, false≢true, ne_eqb}
 use Rattle.page_disk.specs.Disk.{Image}
-use Rattle.super_block.specs.declared.page.Super.{Super}
 use Rattle.volume_model.specs.declared.command.Command.{Command}
 use Rattle.blob_meta.specs.declared.job.Job.{Job as Changes}
 use Rattle.blob_meta.specs.declared.job.Replacement.{Replacement}
-use Rattle.blob_meta.specs.declared.meta.Meta.{Meta}
 use Rattle.blob_meta.specs.Repairs.{after, HasNoMarks, with_replacement}
 use Rattle.blob_meta.specs.Resolving.{resolved}
 use Rattle.md_chain.specs.Chain.{is_among}
 use Rattle.shown_volumes.specs.EmptySlots.{Anything}
 use Rattle.shown_volumes.specs.ShowsStep.{part_of}
-use Rattle.store_model.specs.Jobs.{AreLaid, Does, IsErasure, IsJobPlanned, IsLaid, IsUnseen, Keeps, ReadsZeros}
+use Rattle.store_model.specs.Jobs.{AreLaid, Does, IsJobPlanned, IsLaid, IsUnseen, Keeps, ReadsZeros}
 use Rattle.store_model.specs.Maps.{Chains, Metas}
 use Rattle.store_model.specs.Phases.{Committing, erasing, has_commit, phases_of, rechained, replaced, Replaces}
 use Rattle.store_model.specs.Phases.{Replacing}
 use Rattle.store_model.specs.Phases.{taken_by, todo_of}
 use Rattle.store_model.specs.Places.{all_set}
-use Rattle.store_model.specs.StoreState.{StoreState}
 use Rattle.store_model.proofs.FamilyStep.{family_made, family_step, IsFamilyJob}
 use Rattle.store_model.proofs.Known.{Known}
 use Rattle.store_model.proofs.ListLaid.{lays_list, leads_list, replaced_as}

@@ -1,7 +1,7 @@
 -- A job on volumes, their parents and clones: from what is known of each part of its list to the step of its commit.
-use Rattle.std.proofs.Common.{◌≡◌, ◌⊎◌, ℕ, zero, suc, ◌+◌, ◌^◌, ◌<◌, ◌≤◌, Bool, true, false, List, [], ◌∷◌, length}
+use Rattle.std.proofs.Common.{◌≡◌, ◌⊎◌, ℕ, ◌+◌, ◌^◌, ◌<◌, ◌≤◌, true, false, length}
 use Rattle.std.proofs.Common.{None}
-use Rattle.std.proofs.Common.{Option, Some, refl, sym, ap, ◌∙◌, subst, inl, inr, arith}
+use Rattle.std.proofs.Common.{sym, ap, ◌∙◌, subst, inl, inr, arith}
 use Rattle.std.specs.Prelude.{IsSome}
 use Rattle.std.specs.List.{AllByRecursion}
 use Rattle.page_disk.specs.Disk.{Image}
@@ -9,28 +9,25 @@ use Rattle.super_block.specs.declared.page.Super.{Super}
 use Rattle.volume_model.specs.Volumes.{Fixed, Volumes}
 use Rattle.volume_model.specs.Steps.{Allowed, change}
 use Rattle.volume_model.specs.declared.command.Command.{Command}
-use Rattle.volume_model.specs.declared.reply.Reply.{Reply}
 use Rattle.volume_model.specs.declared.reply.Reply.TheVariants as r_
 use Rattle.blob_meta.specs.declared.job.Job.{Job as Changes}
-use Rattle.blob_meta.specs.declared.meta.Meta.{Meta}
 use Rattle.blob_meta.specs.Repairs.{HasNoMarks}
 use Rattle.blob_meta.specs.Resolving.{resolved}
 use Rattle.md_chain.specs.Chain.{is_among}
 use Rattle.shown_volumes.specs.EmptySlots.{Anything}
 use Rattle.shown_volumes.specs.ShowsStep.{IsAtRest, part_of, replaces, ShowsStep}
-use Rattle.shown_volumes.specs.StoredLaws.{AreStoredWell, StayStored}
+use Rattle.shown_volumes.specs.StoredLaws.{AreStoredWell}
 use Rattle.shown_volumes.proofs.PartsStored.{parts_stored, resolved_steady, steady_rest, steady_stored}
 use Rattle.store_model.specs.Copying.{LeavesEmpty}
 use Rattle.store_model.specs.Jobs.{IsStep, shown_of}
 use Rattle.store_model.specs.Maps.{Metas}
-use Rattle.store_model.specs.Phases.{Committing, LiveChange, replaced, Replacing, with_live}
+use Rattle.store_model.specs.Phases.{Committing, replaced, Replacing, with_live}
 use Rattle.store_model.specs.Recovers.{IsChangeDone}
 use Rattle.store_model.specs.Rows.{IsForMetadata}
-use Rattle.store_model.specs.RunInvariant.{RunsWell}
 use Rattle.store_model.specs.Shown.{fixed_of}
 use Rattle.store_model.specs.StoreState.{live_of, shown, StoreState}
 use Rattle.store_model.proofs.Known.{Known}
-use Rattle.store_model.proofs.ListLaid.{can_be_made, CanBeMade, IsMade}
+use Rattle.store_model.proofs.ListLaid.{can_be_made, CanBeMade}
 use Rattle.store_model.proofs.Meanwhile.{reading}
 use Rattle.store_model.proofs.OneReplacement.{base_lawful, base_steady, some_pages}
 use Rattle.store_model.proofs.Writable.{AllWritable}

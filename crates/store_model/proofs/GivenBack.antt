@@ -25,10 +25,9 @@ use Rattle.store_model.specs.StoreState.{logged_to, shown, StoreState}
 use Rattle.store_model.specs.Turning.{IsPosted, stopped_now}
 use Rattle.store_model.specs.RunInvariant.{RunInvariant}
 use Rattle.store_model.proofs.ClaimSets.{held_without}
-use Rattle.store_model.proofs.Copies.{copied_same}
-use Rattle.store_model.proofs.Guarding.{guarded_same, none_guarded}
+use Rattle.store_model.proofs.DeviceKept.{filling_facts}
+use Rattle.store_model.proofs.Guarding.{none_guarded}
 use Rattle.store_model.proofs.Known.{Known}
-use Rattle.store_model.proofs.Moved.{stands_same}
 use Rattle.store_model.proofs.Refusals.{RefusalsChangeNothing}
 use Rattle.store_model.proofs.RowsKept.{row_here, row_other, way_kept}
 use Rattle.store_model.proofs.Seen.{refusal_seen}
@@ -176,43 +175,6 @@ module _ (known : Known) where
       claim_facts known row next (without_claim p.clusters (p.rows row).claim) p.serial refl free
       (λ runs. held_without p row next (held_here known (facts.well runs)) refl)
       (may _ row (p.rows row).left)
-
-  -- the fill's row works for another command, or for none
-  pub filling_facts : (filling : Option ℕ) → RunInvariant s first script (record p { filling = filling })
-  filling_facts filling =
-      let q : StoreState = record p { filling = filling } in
-      record {
-        super = facts.super;
-        stored = facts.stored;
-        named = facts.named;
-        few = facts.few;
-        lawful = facts.lawful;
-        legal = facts.legal;
-        well = λ runs.
-            let well = facts.well runs in
-            record {
-              chains = well.chains;
-              live = well.live;
-              no_live = well.no_live;
-              pages = well.pages;
-              clusters = well.clusters;
-              claims = well.claims;
-              generations = well.generations;
-              claims_drawn = well.claims_drawn;
-              copied = copied_same p q well.copied refl refl refl (λ row claim page x. x) refl;
-              job = λ j is.
-                  stands_same p q refl refl refl refl refl j (λ row in_job. refl) (λ page among. refl) (well.job j is);
-              replayed = well.replayed;
-            };
-        way = way_kept script p facts.way q refl (λ c. refl);
-        shaped = shaped_same p q facts.shaped refl
-            (λ c in_job. serves_same p q refl c (serves p facts.shaped c in_job)) facts.shaped.served;
-        guarded = guarded_same p q refl refl refl facts.guarded;
-        counted = facts.counted;
-        past = facts.past;
-        halted = facts.halted;
-        unfinished = facts.unfinished;
-      }
 
   -- a write or a flush failed, and the store stops
   pub stopped_facts : (d : Device) → p.device.clock ≤ d.clock

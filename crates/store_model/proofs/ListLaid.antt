@@ -1,6 +1,6 @@
 -- A list of replacements that is laid on pages can be made, one after another.
-use Rattle.std.proofs.Common.{◌≡◌, ◌++◌, ◌^◌, ◌≤◌, ℕ, zero, suc, Bool, List, [], ◌∷◌, length, map, Option, None, Some}
-use Rattle.std.proofs.Common.{refl, sym, ap, ◌∙◌, subst, true, arith, flat_map, append_assoc}
+use Rattle.std.proofs.Common.{◌≡◌, ◌++◌, ◌^◌, ◌≤◌, ℕ, suc, Bool, List, [], ◌∷◌, length, Option, None, Some}
+use Rattle.std.proofs.Common.{refl, sym, ap, ◌∙◌, subst, true, arith, flat_map}
 use Rattle.std.specs.Prelude.{◌-◌, ◌==◌, if◌then◌else◌, take, slice_set}
 use Rattle.std.specs.List.{AllByRecursion}
 use Rattle.super_block.specs.declared.page.Super.{Super}
@@ -10,9 +10,9 @@ use Rattle.blob_meta.specs.Repairs.{after, with_replacement}
 use Rattle.blob_meta.specs.Resolving.{IsLawful, resolved, slots_together}
 use Rattle.md_chain.specs.declared.plan.PlannedPage.{PlannedPage}
 use Rattle.shown_volumes.specs.StoredLaws.{IsStoredWell}
-use Rattle.store_model.specs.Jobs.{AreLaid, CanReplace, IsErasure, IsJobPlanned, IsLaid, IsPlannedFor, Lays, places_of}
+use Rattle.store_model.specs.Jobs.{AreLaid, CanReplace, IsErasure, IsJobPlanned, IsLaid, Lays, places_of}
 use Rattle.store_model.specs.Maps.{Chains, Metas}
-use Rattle.store_model.specs.Phases.{behind, Committing, held_in, page_in, Phase, phases_of, rechained, replaced}
+use Rattle.store_model.specs.Phases.{behind, Committing, held_in, page_in, rechained, replaced}
 use Rattle.store_model.specs.Phases.{Replacing, taken_by, taken_in, todo_of}
 use Rattle.store_model.specs.Places.{all_set, AreLeastClear}
 use Rattle.store_model.specs.Regions.{region_of}

@@ -1,6 +1,6 @@
 -- A job that begins marks the store as in use before all else, where the store is clean: what every state has is kept.
-use Rattle.std.proofs.Common.{◌≡◌, ◌≢◌, ℕ, Bool, true, false, List, [], ◌∷◌, Some, None, refl, sym, ap, ◌∙◌, subst, arith}
-use Rattle.store_model.specs.Jobs.{InsertStands, JobStands}
+use Rattle.std.proofs.Common.{◌≡◌, ◌≢◌, Bool, true, false, List, [], ◌∷◌, Some, None, refl, sym, ap, ◌∙◌, subst, arith}
+use Rattle.store_model.specs.Jobs.{JobStands}
 use Rattle.store_model.specs.Phases.{has_commit, marking, Marks, Phase}
 use Rattle.store_model.specs.Places.{claimed_by, held_by, UsedPages}
 use Rattle.store_model.specs.RunInvariant.{RunInvariant, RunsWell}

@@ -1,5 +1,5 @@
 -- A job that a command asks for, laid on pages, is ready to begin.
-use Rattle.std.proofs.Common.{◌≡◌, ℕ, List, [], ◌∷◌, Bool, None, Some, refl, sym, ap, ◌∙◌, subst}
+use Rattle.std.proofs.Common.{ℕ, List, []}
 use Rattle.blob_meta.specs.Repairs.{HasNoMarks}
 use Rattle.volume_model.specs.declared.command.Command.{Command}
 use Rattle.store_model.specs.Jobs.{Does, Lays, ReadsZeros}

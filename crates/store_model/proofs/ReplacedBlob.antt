@@ -11,7 +11,7 @@ use Rattle.blob_meta.specs.declared.meta.Meta.{Meta}
 use Rattle.md_chain.specs.Chain.{is_among}
 use Rattle.store_model.specs.Guarding.{all_renewed, AreGenerations}
 use Rattle.store_model.specs.Jobs.{IsErasure}
-use Rattle.store_model.specs.Maps.{Chains, Map, Metas, with_entry, with_option, without_entry}
+use Rattle.store_model.specs.Maps.{Chains, Map, Metas, with_option, without_entry}
 use Rattle.store_model.specs.Phases.{chain_before, rechained, replaced, Replacing, taken_by}
 use Rattle.store_model.specs.Places.{AreDistinct, UsedPages}
 use Rattle.store_model.specs.RunInvariant.{HaveChains}

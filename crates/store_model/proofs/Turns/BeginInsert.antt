@@ -1,5 +1,5 @@
 -- The turn begins_insert.
-use Rattle.std.proofs.Common.{◌≡◌, ◌≢◌, ◌≤◌, ◌^◌, ◌++◌, List, [], ◌∷◌, Option, Some, None, true, false, refl, sym, ap}
+use Rattle.std.proofs.Common.{◌≡◌, ◌≤◌, ◌^◌, ◌++◌, List, [], ◌∷◌, Option, Some, None, true, false, refl, sym, ap}
 use Rattle.std.proofs.Common.{◌∙◌, subst, inl, inr, arith}
 use Rattle.std.specs.Option.{option_map_or}
 use Rattle.std.proofs.lemmas.Bool.{cases_Bool, cases_eq}
@@ -24,18 +24,18 @@ use Rattle.store_model.specs.Cases.BeginInsert.{BeginsInsert}
 use Rattle.store_model.specs.RunInvariant.{RunInvariant, RunsWell}
 use Rattle.store_model.proofs.Claims.{differ_still, used_still, with_row_same}
 use Rattle.store_model.proofs.Copies.{copied_same, row_no_more}
-use Rattle.store_model.proofs.Guarding.{claims_drawn_still, guarded_begun}
+use Rattle.store_model.proofs.Guarding.{claims_drawn_still}
 use Rattle.store_model.proofs.Heads.{replaced_is}
 use Rattle.shown_volumes.proofs.Inside.{IsInside}
 use Rattle.store_model.proofs.InsertedBlob.{inserted_steady, lawful_inserted, slots_inserted}
+use Rattle.store_model.proofs.JobBegun.{begun_keeps}
 use Rattle.store_model.proofs.Known.{Known}
 use Rattle.store_model.proofs.LeftToDo.{no_place, chain_new}
 use Rattle.store_model.proofs.OneReplacement.{all_steady, base_lawful, base_steady, base_resolved}
-use Rattle.store_model.proofs.Marking.{marked_keeps}
 use Rattle.store_model.proofs.Over.{Effect, nothing, stays, TurnLaw}
 use Rattle.store_model.proofs.Phases.{old_pages, puts_behind}
 use Rattle.store_model.proofs.PhasesOfOne.{held_one, lays_one, leads_one, some_phase}
-use Rattle.store_model.proofs.RowsKept.{row_here, row_other, way_kept}
+use Rattle.store_model.proofs.RowsKept.{row_here, row_other}
 use Rattle.store_model.proofs.Sets.{are_distinct}
 use Rattle.store_model.proofs.Shaped.{holding_may, none_without, Serves, shaped_with}
 use Rattle.store_model.proofs.Shapes.{Idles, silent, untouched_images}
@@ -209,57 +209,31 @@ module _ (known : Known) where
         subst (UsedPages p.super.md_len p.pages p.chains) (ap held_by t.no_job) well.pages in
         let claims_same = with_row_same p.rows row next (sym held_it) in
         let claimed_same : claimed_by now.job ≡ claimed_by p.job = sym (ap claimed_by t.no_job) in
-        let done : RunInvariant s first script now =
-        record {
-          super = facts.super;
-          stored = facts.stored;
-          named = facts.named;
-          few = facts.few;
-          lawful = facts.lawful;
-          legal = facts.legal;
-          well = λ runs. record {
-            chains = well.chains;
-            live = well.live;
-            no_live = well.no_live;
-            pages = subst (UsedPages p.super.md_len now.pages p.chains) (sym (held_one r None))
-                (used_begun p.super.md_len p.pages p.chains (taken_by r) used planned.least);
-            clusters = used_still p.rows now.rows p.job now.job claims_same claimed_same p.super p.clusters p.base
-                well.clusters;
-            claims = differ_still p.rows now.rows p.job now.job claims_same claimed_same well.claims;
-            generations = well.generations;
-            claims_drawn =
-                claims_drawn_still p.rows now.rows p.drawn p.drawn claims_same (omega arith) well.claims_drawn;
-            copied = copied_same p now well.copied refl refl refl
-                (row_no_more (cluster_pages_of p.super) p.rows row next (λ other page holds has. record {
-                  held = held_it ∙ holds;
-                  copied = subst (λ (x : Stage). HasCopied (cluster_pages_of p.super) x page)
-                      (sym (ap (λ (x : Row). x.stage) t.posted.is)) has;
-                })) refl;
-            job = λ j is. let same : job ≡ j = cc is in subst (JobStands now) same stands;
-            replayed = well.replayed;
-          };
-          way = way_kept script p facts.way now refl (λ c. elim (cases_eq c row) [
-            | inl e ↦ ap (λ (x : Row). x.left) (row_here p.rows row next c e)
-                ∙ sym (ap (λ (x : Row). x.left) t.posted.is) ∙ ap (λ k. (p.rows k).left) (sym e)
-            | inr ne ↦ ap (λ (x : Row). x.left) (row_other p.rows row next c ne)
-          ]);
-          shaped = shaped_with p facts.shaped now row next refl
-              (λ c ne in_job. absurd (none_without p facts.shaped t.no_job c in_job))
-              (holding_may now row left InJob claim tt (λ serial bad. absurd (cc bad)) (λ _. serves_it))
-              (λ j c is serves _.
-              let same : job ≡ j = cc is in
-              absurd (let bad = ap (λ (i : JobState). i.serves) same ∙ serves in cc bad));
-          guarded = guarded_begun p now facts.guarded t.no_job job refl t.runs refl;
-          counted = facts.counted;
-          past = facts.past;
-          halted = λ at is. absurd (let bad = sym t.runs ∙ is in cc bad);
-          unfinished = λ j is.
-              let same : job ≡ j = cc is in
-              subst (λ (i : JobState). i.todo ≢ []) same (some_phase r None []);
-        } in
         subst (RunInvariant s first script) (sym t.next)
-        (marked_keeps (record { s = s; placed = placed; first = first; script = script; p = now; facts = done }) job refl
-        t.runs (some_phase r None []) p.clean)
+        (begun_keeps known t.runs t.no_job now.rows job now.pages p.clusters
+        (subst (UsedPages p.super.md_len now.pages p.chains) (sym (held_one r None))
+        (used_begun p.super.md_len p.pages p.chains (taken_by r) used planned.least))
+        (used_still p.rows now.rows p.job now.job claims_same claimed_same p.super p.clusters p.base well.clusters)
+        (differ_still p.rows now.rows p.job now.job claims_same claimed_same well.claims)
+        (claims_drawn_still p.rows now.rows p.drawn p.drawn claims_same (omega arith) well.claims_drawn)
+        (copied_same p now well.copied refl refl refl
+        (row_no_more (cluster_pages_of p.super) p.rows row next (λ other page holds has. record {
+          held = held_it ∙ holds;
+          copied = subst (λ (x : Stage). HasCopied (cluster_pages_of p.super) x page)
+              (sym (ap (λ (x : Row). x.stage) t.posted.is)) has;
+        })) refl) stands
+        (λ c. elim (cases_eq c row) [
+          | inl e ↦ ap (λ (x : Row). x.left) (row_here p.rows row next c e)
+              ∙ sym (ap (λ (x : Row). x.left) t.posted.is) ∙ ap (λ k. (p.rows k).left) (sym e)
+          | inr ne ↦ ap (λ (x : Row). x.left) (row_other p.rows row next c ne)
+        ])
+        (shaped_with p facts.shaped now row next refl
+        (λ c ne in_job. absurd (none_without p facts.shaped t.no_job c in_job))
+        (holding_may now row left InJob claim tt (λ serial bad. absurd (cc bad)) (λ _. serves_it))
+        (λ j c is serves _.
+        let same : job ≡ j = cc is in
+        absurd (let bad = ap (λ (i : JobState). i.serves) same ∙ serves in cc bad)))
+        (some_phase r None []))
 
 pub law : TurnLaw case.kind
 law = record {

@@ -1,5 +1,5 @@
 -- The turn begins_repair.
-use Rattle.std.proofs.Common.{◌≡◌, ◌≢◌, ◌/◌, List, [], ◌∷◌, Option, Some, None, true, refl, sym, ap, ◌∙◌, subst, inr}
+use Rattle.std.proofs.Common.{◌≡◌, ◌/◌, List, [], ◌∷◌, Option, Some, None, true, refl, sym, ap, ◌∙◌, subst, inr}
 use Rattle.std.specs.Option.{option_map_or}
 use Rattle.super_block.specs.Numbers.{cluster_pages_of}
 use Rattle.store_model.specs.Cases.BeginRepair as case
@@ -11,16 +11,14 @@ use Rattle.store_model.specs.RunInvariant.{RunInvariant, RunsWell}
 use Rattle.store_model.specs.StoreState.{ForRepair, JobState, StoreState}
 use Rattle.store_model.proofs.Claims.{differ_still, used_still}
 use Rattle.store_model.proofs.Copies.{copied_same}
-use Rattle.store_model.proofs.Guarding.{guarded_begun}
+use Rattle.store_model.proofs.JobBegun.{begun_keeps}
 use Rattle.store_model.proofs.Known.{Known}
 use Rattle.store_model.proofs.LawsBelow.{RepairLaws}
 use Rattle.store_model.proofs.LeftToDo.{no_place}
-use Rattle.store_model.proofs.Marking.{marked_keeps}
 use Rattle.store_model.proofs.Over.{Effect, nothing, stays, TurnLaw}
 use Rattle.store_model.proofs.Phases.{keeps_behind, keeps_clearing, mends_behind, mends_clearing}
 use Rattle.store_model.proofs.PhasesOfOne.{held_one, lays_one, some_phase}
 use Rattle.store_model.proofs.RepairBegun.{can, new_unmarked, planned, unseen}
-use Rattle.store_model.proofs.RowsKept.{way_kept}
 use Rattle.store_model.proofs.Sets.{are_distinct}
 use Rattle.store_model.proofs.Shaped.{none_without, shaped_same}
 use Rattle.store_model.proofs.Shapes.{Idles, silent, untouched_images}
@@ -69,46 +67,18 @@ module _ (laws : RepairLaws) (known : Known) where
         let used : UsedPages p.super.md_len p.pages p.chains [] =
         subst (UsedPages p.super.md_len p.pages p.chains) (ap held_by t.no_job) well.pages in
         let claimed_same : claimed_by now.job ≡ claimed_by p.job = sym (ap claimed_by t.no_job) in
-        let done : RunInvariant s first script now =
-        record {
-          super = facts.super;
-          stored = facts.stored;
-          named = facts.named;
-          few = facts.few;
-          lawful = facts.lawful;
-          legal = facts.legal;
-          well = λ runs. record {
-            chains = well.chains;
-            live = well.live;
-            no_live = well.no_live;
-            pages = subst (UsedPages p.super.md_len now.pages p.chains) (sym (held_one r None))
-                (used_begun p.super.md_len p.pages p.chains (taken_by r) used (planned laws known q t).least);
-            clusters = used_still p.rows p.rows p.job now.job (λ c. refl) claimed_same p.super p.clusters p.base
-                well.clusters;
-            claims = differ_still p.rows p.rows p.job now.job (λ c. refl) claimed_same well.claims;
-            generations = well.generations;
-            claims_drawn = well.claims_drawn;
-            copied = copied_same p now well.copied refl refl refl (λ row claim page x. x) refl;
-            job = λ j is. let same : job ≡ j = cc is in subst (JobStands now) same stands;
-            replayed = well.replayed;
-          };
-          way = way_kept script p facts.way now refl (λ c. refl);
-          shaped = shaped_same p now facts.shaped refl
-              (λ c in_job. absurd (none_without p facts.shaped t.no_job c in_job))
-              (λ j c is serves _.
-              let same : job ≡ j = cc is in
-              absurd (let bad = ap (λ (i : JobState). i.serves) same ∙ serves in cc bad));
-          guarded = guarded_begun p now facts.guarded t.no_job job refl t.runs refl;
-          counted = facts.counted;
-          past = facts.past;
-          halted = λ at is. absurd (let bad = sym t.runs ∙ is in cc bad);
-          unfinished = λ j is.
-              let same : job ≡ j = cc is in
-              subst (λ (i : JobState). i.todo ≢ []) same (some_phase r None []);
-        } in
         subst (RunInvariant s first script) (sym t.next)
-        (marked_keeps (record { s = s; placed = placed; first = first; script = script; p = now; facts = done }) job refl
-        t.runs (some_phase r None []) p.clean)
+        (begun_keeps known t.runs t.no_job p.rows job now.pages p.clusters
+        (subst (UsedPages p.super.md_len now.pages p.chains) (sym (held_one r None))
+        (used_begun p.super.md_len p.pages p.chains (taken_by r) used (planned laws known q t).least))
+        (used_still p.rows p.rows p.job now.job (λ c. refl) claimed_same p.super p.clusters p.base well.clusters)
+        (differ_still p.rows p.rows p.job now.job (λ c. refl) claimed_same well.claims) well.claims_drawn
+        (copied_same p now well.copied refl refl refl (λ row claim page x. x) refl) stands (λ c. refl)
+        (shaped_same p now facts.shaped refl (λ c in_job. absurd (none_without p facts.shaped t.no_job c in_job))
+        (λ j c is serves _.
+        let same : job ≡ j = cc is in
+        absurd (let bad = ap (λ (i : JobState). i.serves) same ∙ serves in cc bad)))
+        (some_phase r None []))
 
 pub law : TurnLaw case.kind
 law = record {

@@ -8,7 +8,7 @@ use Rattle.store_model.specs.Cases.ClaimFill.{ClaimsFill}
 use Rattle.store_model.specs.StoreState.{StoreState}
 use Rattle.store_model.specs.RunInvariant.{RunInvariant}
 use Rattle.store_model.proofs.ClaimSets.{held_made}
-use Rattle.store_model.proofs.GivenBack.{filling_facts}
+use Rattle.store_model.proofs.DeviceKept.{filling_facts}
 use Rattle.store_model.proofs.Known.{Known}
 use Rattle.store_model.proofs.Over.{Effect, nothing, stays, TurnLaw}
 use Rattle.store_model.proofs.Shapes.{idles, Idles, untouched_images, silent}

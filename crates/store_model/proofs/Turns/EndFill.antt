@@ -6,7 +6,8 @@ use Rattle.store_model.specs.StoreState.{StoreState}
 use Rattle.store_model.specs.Cases.EndFill as case
 use Rattle.store_model.specs.Cases.EndFill.{EndsFill}
 use Rattle.store_model.specs.RunInvariant.{RunInvariant}
-use Rattle.store_model.proofs.GivenBack.{filling_facts, given_back_facts}
+use Rattle.store_model.proofs.DeviceKept.{filling_facts}
+use Rattle.store_model.proofs.GivenBack.{given_back_facts}
 use Rattle.store_model.proofs.Known.{Known}
 use Rattle.store_model.proofs.Over.{Effect, nothing, stays, TurnLaw}
 use Rattle.store_model.proofs.Shapes.{idles, Idles, silent, untouched_images}

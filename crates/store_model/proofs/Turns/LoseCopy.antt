@@ -7,7 +7,8 @@ use Rattle.store_model.specs.StoreState.{StoreState}
 use Rattle.store_model.specs.Cases.LoseCopy as case
 use Rattle.store_model.specs.Cases.LoseCopy.{LosesCopy}
 use Rattle.store_model.specs.RunInvariant.{RunInvariant}
-use Rattle.store_model.proofs.GivenBack.{filling_facts, given_back_facts}
+use Rattle.store_model.proofs.DeviceKept.{filling_facts}
+use Rattle.store_model.proofs.GivenBack.{given_back_facts}
 use Rattle.store_model.proofs.Known.{Known}
 use Rattle.store_model.proofs.Over.{Effect, nothing, stays, TurnLaw}
 use Rattle.store_model.proofs.Shapes.{idles, Idles, silent, untouched_images}

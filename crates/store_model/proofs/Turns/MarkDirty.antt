@@ -30,7 +30,7 @@ use Rattle.store_model.proofs.LeftToDo.{next_of}
 use Rattle.store_model.proofs.Moved.{stands_same}
 use Rattle.store_model.proofs.Over.{Effect, ImageLaw, moves, nothing, Over, TurnLaw}
 use Rattle.store_model.proofs.Shows.{resolved_faultless, shown_same}
-use Rattle.store_model.proofs.StandsKept.{far_super, stands_now, super_outside}
+use Rattle.store_model.proofs.StandsKept.{far_super, super_outside}
 use Rattle.store_model.proofs.SuperMarked.{elsewhere, mark_way, marked_image, marked_stands}
 
 -- ---- it keeps what every state has

@@ -28,8 +28,8 @@ returns-then-not-is_current-clause-lost g c said =
     (c.rest.ensures ∙ ap (λ (v : StoreView g.row.D.Denot). filling_left v.filling c.args.row)
     c.give_back.ensures.given_back))
 
-pub copy_to-requires-clause-copies : goal.copy_to-requires-clause-copies
-copy_to-requires-clause-copies g c =
+pub copy_to-requires : goal.copy_to-requires
+copy_to-requires g c =
     let p = view_of c.args.running.now in
     let low : c.args.row < length p.rows = omega (arith, c.requires.row, c.requires.order.seventeen) in
     let row = row_read p.rows c.args.row c.index-own.result.now low c.index-own.ensures in
@@ -49,57 +49,18 @@ copy_to-requires-clause-copies g c =
     c.cluster_pages-pages.result pages c.page_in.result c.page_in.ensures in
     let to = c.page_in-to.ensures ∙ ap (λ (k : ℕ). c.in-Some.claim.cluster * k + page) pages in
     let fewer : w.left ≡ c.in-Some-to_copy.left - 1 = omega (arith, left) in
-    subst (CopiesNow g.D.PageDisk p c.args.row c.place_read-from.result c.page_in-to.result) fewer
-    (copies_now g.D.PageDisk p c.args.row c.requires.running c.requires.runs c.requires.order.resolves w current
-    page next
-    c.place_read-from.result from c.page_in-to.result to)
-
-pub copy_to-requires-clause-from : goal.copy_to-requires-clause-from
-copy_to-requires-clause-from g c =
-    let p = view_of c.args.running.now in
-    let low : c.args.row < length p.rows = omega (arith, c.requires.row, c.requires.order.seventeen) in
-    let row = row_read p.rows c.args.row c.index-own.result.now low c.index-own.ensures in
-    let w = seen_copy g.D.PageDisk p c.args.row c.requires.waits (claim_seen c.in-Some.claim)
-    (ap (λ (r : Row). r.claim) (sym row) ∙ sym c.claim.ensures ∙ ap (option_map claim_seen) c.in-Some.is) in
-    let left : c.in-Some-to_copy.left ≡ suc w.left = left_read g.D.PageDisk p c.args.row w c.in-Some-to_copy.left
-    (sym c.in-Some-to_copy.is ∙ c.to_copy.ensures ∙ ap (λ (r : Row). to_copy_in r.stage) row) in
-    let pages = c.cluster_pages-pages.ensures.value in
-    let few = w.few in
-    let next : c.cluster_pages-pages.result - c.in-Some-to_copy.left + suc w.left ≡ cluster_pages_of p.super =
-    omega (arith, left, pages, few) in
-    let current = c.is_current.ensures.0 c.if-not-is_current.false in
-    let page = c.cluster_pages-pages.result - c.in-Some-to_copy.left in
-    let place = c.place_read-from.ensures (heads_fit (state_of g.D.PageDisk p) c.requires.running c.requires.runs
-    p.metas c.requires.order.resolves.resolves) in
-    let from = place ∙ from_is p.metas p.super c.in-Some.claim.head c.in-Some.claim.slot page
-    c.cluster_pages-pages.result pages c.page_in.result c.page_in.ensures in
-    let to = c.page_in-to.ensures ∙ ap (λ (k : ℕ). c.in-Some.claim.cluster * k + page) pages in
-    from_inside g.D.PageDisk p c.args.row c.requires.running c.requires.runs c.requires.order.resolves w current
-    page next
-    c.place_read-from.result from (g.D.PageDisk.pages p.disk) c.requires.order.device
-
-pub copy_to-requires-clause-to : goal.copy_to-requires-clause-to
-copy_to-requires-clause-to g c =
-    let p = view_of c.args.running.now in
-    let low : c.args.row < length p.rows = omega (arith, c.requires.row, c.requires.order.seventeen) in
-    let row = row_read p.rows c.args.row c.index-own.result.now low c.index-own.ensures in
-    let w = seen_copy g.D.PageDisk p c.args.row c.requires.waits (claim_seen c.in-Some.claim)
-    (ap (λ (r : Row). r.claim) (sym row) ∙ sym c.claim.ensures ∙ ap (option_map claim_seen) c.in-Some.is) in
-    let left : c.in-Some-to_copy.left ≡ suc w.left = left_read g.D.PageDisk p c.args.row w c.in-Some-to_copy.left
-    (sym c.in-Some-to_copy.is ∙ c.to_copy.ensures ∙ ap (λ (r : Row). to_copy_in r.stage) row) in
-    let pages = c.cluster_pages-pages.ensures.value in
-    let few = w.few in
-    let next : c.cluster_pages-pages.result - c.in-Some-to_copy.left + suc w.left ≡ cluster_pages_of p.super =
-    omega (arith, left, pages, few) in
-    let current = c.is_current.ensures.0 c.if-not-is_current.false in
-    let page = c.cluster_pages-pages.result - c.in-Some-to_copy.left in
-    let place = c.place_read-from.ensures (heads_fit (state_of g.D.PageDisk p) c.requires.running c.requires.runs
-    p.metas c.requires.order.resolves.resolves) in
-    let from = place ∙ from_is p.metas p.super c.in-Some.claim.head c.in-Some.claim.slot page
-    c.cluster_pages-pages.result pages c.page_in.result c.page_in.ensures in
-    let to = c.page_in-to.ensures ∙ ap (λ (k : ℕ). c.in-Some.claim.cluster * k + page) pages in
-    let low_to = to_inside g.D.PageDisk p c.args.row c.requires.running c.requires.runs c.requires.order.resolves w
-    current page next
-    c.place_read-from.result from c.page_in-to.result to in
+    let low = to_inside g.D.PageDisk p c.args.row c.requires.running c.requires.runs c.requires.order.resolves w current
+    page next c.place_read-from.result from c.page_in-to.result to in
     let device = c.requires.order.device in
-    omega (arith, low_to, device)
+    record {
+      order = c.requires.order;
+      row = c.requires.row;
+      copies = subst (CopiesNow g.D.PageDisk p c.args.row c.place_read-from.result c.page_in-to.result) fewer
+          (copies_now g.D.PageDisk p c.args.row c.requires.running c.requires.runs c.requires.order.resolves w current
+          page next c.place_read-from.result from c.page_in-to.result to);
+      running = c.requires.running;
+      fill = c.requires.fill;
+      from = from_inside g.D.PageDisk p c.args.row c.requires.running c.requires.runs c.requires.order.resolves w
+          current page next c.place_read-from.result from (g.D.PageDisk.pages p.disk) device;
+      to = omega (arith, low, device);
+    }

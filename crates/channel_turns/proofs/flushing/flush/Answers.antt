@@ -1,11 +1,12 @@
-use Rattle.std.proofs.Common.{◌<◌, length, ◌∙◌, ap, sym, arith}
+use Rattle.std.proofs.Common.{◌<◌, length, ◌∙◌, sym, arith, subst}
 use Rattle.volume_model.specs.declared.reply.Reply.TheVariants as r
+use Rattle.store_model.specs.Rows.{Idle}
 use Rattle.running_store.specs.Running.{view_of}
-use Rattle.running_store.specs.Steps.{logged_on}
-use Rattle.running_store.specs.StoreView.{StoreView, rows_of}
+use Rattle.running_store.specs.StoreView.{StoreView}
 use Rattle.channel_turns.proofs.Flushed.{flush_failed, flush_made}
 use Rattle.running_store.proofs.PlainFacts.{on_err, on_ok}
 use Rattle.channel_turns.proofs.Thawed.{thawed}
+use Rattle.channel_turns.proofs.FirstCommand.{IsLogged}
 use Rattle.channel_turns.proofs.flushing.flush.Goals as goal
 
 pub returns-then-is_err-clause-case : goal.returns-then-is_err-clause-case
@@ -13,18 +14,14 @@ returns-then-is_err-clause-case g c =
     let d = g.D.PageDisk in
     let old = view_of c.args.running.now in
     let q = view_of c.log_here.new.running in
-    let channel = c.args.channel in
-    let low : channel < length c.args.running.now.rows.items =
+    let low : c.args.channel < length c.args.running.now.rows.items =
     omega (arith, c.requires.channel, c.requires.order.seventeen) in
-    let stopped = c.stop_here.ensures.stopped in
-    flush_failed d old channel low c.requires.runs c.requires.waits c.flush_once.new.disk
+    flush_failed d old c.args.channel low c.requires.runs c.requires.waits c.flush_once.new.disk
     c.flush_once.ensures.any_moment q
     (thawed d old c.requires.running.facts.guarded)
     (on_err c.flush_once.result _ (sym c.is_err.ensures.value ∙ c.if-is_err.true) c.flush_once.ensures.fails)
-    (λ command rest left.
-    c.log_here.ensures.logged command rest
-    (ap (λ (v : StoreView g.row.D.Denot). (rows_of v.rows channel).left) stopped ∙ left)
-    ∙ ap (λ (v : StoreView g.row.D.Denot). logged_on v channel command rest r.Fault (d.clock q.disk)) stopped)
+    (subst (λ (v : StoreView g.row.D.Denot). IsLogged Idle d v c.args.channel r.Fault q) c.stop_here.ensures.stopped
+    c.log_here.ensures.logged)
 
 pub returns-else-is_err-clause-case : goal.returns-else-is_err-clause-case
 returns-else-is_err-clause-case g c =

@@ -1,10 +1,7 @@
-use Rattle.std.proofs.Common.{◌≡◌, ◌<◌, length, List, sym, ◌∙◌, ap, subst, arith}
-use Rattle.blob_meta.specs.Pages.{IsFirstOnPages}
-use Rattle.volume_model.specs.declared.command.Command.TheVariants as command
+use Rattle.std.proofs.Common.{◌<◌, length, sym, ◌∙◌, ap, subst, arith}
 use Rattle.store_model.specs.Rows.{Claiming, Idle, Row}
-use Rattle.channel_turns.specs.ChannelTurns.{IsFrozenFor, WritesNow}
+use Rattle.channel_turns.specs.ChannelTurns.{WritesNow}
 use Rattle.running_store.specs.Running.{view_of}
-use Rattle.running_store.specs.StoreView.{rows_of, state_of}
 use Rattle.running_store.proofs.Rowing.{row_read}
 use Rattle.channel_turns.proofs.WriteAsked.{found_empty, place_low, refused, writes_now}
 use Rattle.channel_turns.proofs.WriteMeant.{found_there, frozen_so, seen_write}
@@ -18,10 +15,7 @@ refusal_of_write-requires-clause-there g c =
 pub returns-in-Some-clause-logged : goal.returns-in-Some-clause-logged
 returns-in-Some-clause-logged g c said =
     let p = view_of c.args.running.now in
-    let w = seen_write p c.args.channel Idle c.requires.waits c.first_of.result.now c.in-Write.volume c.in-Write.page
-    c.in-Write.word
-    (λ k rest left. c.first_of.ensures k rest
-    (ap (λ (l : List Row). (rows_of l c.args.channel).left) c.deref.ensures.value ∙ left)) c.in-Write.is in
+    let w = seen_write p c.args.channel Idle c.requires.waits c.deref.ensures.value c.first_of.ensures c.in-Write.is in
     refused g.D.PageDisk p c.args.channel c.requires.running c.requires.runs c.requires.order.resolves w
     c.find-head.result
     c.find-head.ensures.meant (sym c.is_frozen.ensures ∙ c.if-is_frozen.false) c.in-Some.reply c.in-Some.ensures.caused
@@ -33,16 +27,13 @@ pub returns-in_default-place_in-clause-empty : goal.returns-in_default-place_in-
 returns-in_default-place_in-clause-empty g c said =
     let p = view_of c.args.running.now in
     let low : c.args.channel < length p.rows = omega (arith, c.requires.channel, c.requires.order.seventeen) in
-    let w = seen_write p c.args.channel Idle c.requires.waits c.first_of.result.now c.in-Write.volume c.in-Write.page
-    c.in-Write.word
-    (λ k rest left. c.first_of.ensures k rest
-    (ap (λ (l : List Row). (rows_of l c.args.channel).left) c.deref.ensures.value ∙ left)) c.in-Write.is in
+    let w = seen_write p c.args.channel Idle c.requires.waits c.deref.ensures.value c.first_of.ensures c.in-Write.is in
     found_empty g.D.PageDisk p c.args.channel c.requires.running c.requires.runs c.requires.order.resolves w
     c.find-head.result
     c.find-head.ensures.meant (sym c.is_frozen.ensures ∙ c.if-is_frozen.false)
-    (subst (IsFirstOnPages p.metas p.super (command.Write c.in-Write.volume c.in-Write.page c.in-Write.word))
+    c.refusal_of_write.result
+    (c.refusal_of_write.ensures.first c.in-Write.volume c.in-Write.word c.find-head.ensures.meant)
     c.in_default-refusal_of_write.is
-    (c.refusal_of_write.ensures.first c.in-Write.volume c.in-Write.word c.find-head.ensures.meant))
     (sym c.place_in.ensures ∙ c.in_default-place_in.is)
     (found_there p.metas p.super c.in-Write.volume c.find-head.result c.find-head.ensures.some)
     low c.go_to.new.self
@@ -52,47 +43,35 @@ returns-in_default-place_in-clause-empty g c said =
 pub put_page-requires-clause-writes : goal.put_page-requires-clause-writes
 put_page-requires-clause-writes g c =
     let p = view_of c.args.running.now in
-    let w = seen_write p c.args.channel Idle c.requires.waits c.first_of.result.now c.in-Write.volume c.in-Write.page
-    c.in-Write.word
-    (λ k rest left. c.first_of.ensures k rest
-    (ap (λ (l : List Row). (rows_of l c.args.channel).left) c.deref.ensures.value ∙ left)) c.in-Write.is in
+    let w = seen_write p c.args.channel Idle c.requires.waits c.deref.ensures.value c.first_of.ensures c.in-Write.is in
     subst (λ content. WritesNow g.D.PageDisk p c.args.channel c.in-Some-place_in.place content)
     (sym c.page_of-content.ensures)
     (writes_now g.D.PageDisk p c.args.channel c.requires.running c.requires.runs c.requires.order.resolves w
     c.find-head.result
     c.find-head.ensures.meant (sym c.is_frozen.ensures ∙ c.if-is_frozen.false)
-    (subst (IsFirstOnPages p.metas p.super (command.Write c.in-Write.volume c.in-Write.page c.in-Write.word))
+    c.refusal_of_write.result
+    (c.refusal_of_write.ensures.first c.in-Write.volume c.in-Write.word c.find-head.ensures.meant)
     c.in_default-refusal_of_write.is
-    (c.refusal_of_write.ensures.first c.in-Write.volume c.in-Write.word c.find-head.ensures.meant))
     c.in-Some-place_in.place (sym c.place_in.ensures ∙ c.in-Some-place_in.is))
 
 pub put_page-requires-clause-inside : goal.put_page-requires-clause-inside
 put_page-requires-clause-inside g c =
     let p = view_of c.args.running.now in
-    let w = seen_write p c.args.channel Idle c.requires.waits c.first_of.result.now c.in-Write.volume c.in-Write.page
-    c.in-Write.word
-    (λ k rest left. c.first_of.ensures k rest
-    (ap (λ (l : List Row). (rows_of l c.args.channel).left) c.deref.ensures.value ∙ left)) c.in-Write.is in
+    let w = seen_write p c.args.channel Idle c.requires.waits c.deref.ensures.value c.first_of.ensures c.in-Write.is in
     let low = place_low g.D.PageDisk p c.args.channel c.requires.running c.requires.runs c.requires.order.resolves w
     c.find-head.result
     c.find-head.ensures.meant (sym c.is_frozen.ensures ∙ c.if-is_frozen.false)
-    (subst (IsFirstOnPages p.metas p.super (command.Write c.in-Write.volume c.in-Write.page c.in-Write.word))
+    c.refusal_of_write.result
+    (c.refusal_of_write.ensures.first c.in-Write.volume c.in-Write.word c.find-head.ensures.meant)
     c.in_default-refusal_of_write.is
-    (c.refusal_of_write.ensures.first c.in-Write.volume c.in-Write.word c.find-head.ensures.meant))
     c.in-Some-place_in.place (sym c.place_in.ensures ∙ c.in-Some-place_in.is) in
     let device = c.requires.order.device in
     omega (arith, low, device)
 
 pub returns-then-is_frozen-clause-frozen : goal.returns-then-is_frozen-clause-frozen
-returns-then-is_frozen-clause-frozen g c said k ks left =
+returns-then-is_frozen-clause-frozen g c said =
     let d = g.D.PageDisk in
     let p = view_of c.args.running.now in
-    let w = seen_write p c.args.channel Idle c.requires.waits c.first_of.result.now c.in-Write.volume c.in-Write.page
-    c.in-Write.word
-    (λ k rest left. c.first_of.ensures k rest
-    (ap (λ (l : List Row). (rows_of l c.args.channel).left) c.deref.ensures.value ∙ left)) c.in-Write.is in
-    let both = sym (ap (λ (r : Row). r.left) w.row) ∙ left in
-    let one : command.Write w.volume w.page w.word ≡ k = cc both in
-    subst (IsFrozenFor (state_of d p)) one
-    (frozen_so d p c.args.channel Idle c.requires.running c.requires.runs c.requires.order.resolves w
-    c.find-head.result c.find-head.ensures.meant (sym c.is_frozen.ensures ∙ c.if-is_frozen.true))
+    let w = seen_write p c.args.channel Idle c.requires.waits c.deref.ensures.value c.first_of.ensures c.in-Write.is in
+    frozen_so d p c.args.channel Idle c.requires.running c.requires.runs c.requires.order.resolves w
+    c.find-head.result c.find-head.ensures.meant (sym c.is_frozen.ensures ∙ c.if-is_frozen.true)

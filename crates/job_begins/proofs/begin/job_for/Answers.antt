@@ -1,15 +1,12 @@
-use Rattle.std.proofs.Common.{◌≡◌, ◌<◌, ◌≤◌, ◌∙◌, All, Bool, true, false, List, [], length, sym, ap, subst, arith}
-use Rattle.std.proofs.Common.{IfErr}
-use Rattle.std.proofs.Common.{None, Option, Result, Some, refl}
+use Rattle.std.proofs.Common.{◌≡◌, ◌<◌, ◌≤◌, ◌∙◌, Bool, List, [], length, sym, ap, subst, arith}
+use Rattle.std.proofs.Common.{None, Option, Some, refl}
 use Rattle.std.specs.Prelude.{is_some, not, IsSome}
 use Rattle.std.specs.Option.{option_map}
-use Rattle.std.proofs.lemmas.Result.{err_from_is_err_and}
-use Rattle.bit_array.specs.Bits.{is_in}
 use Rattle.pools.specs.Pool.{PoolState}
 use Rattle.volume_model.specs.declared.reply.Reply.{Reply}
 use Rattle.store_model.specs.Cases.{IsRefusedAtBegin}
 use Rattle.store_model.specs.Maps.{Metas}
-use Rattle.store_model.specs.Places.{all_set, AreDistinct}
+use Rattle.store_model.specs.Places.{AreDistinct}
 use Rattle.store_model.specs.Rows.{Row}
 use Rattle.store_model.proofs.Sets.{are_distinct}
 use Rattle.job_begins.specs.Begins.{IsPrepared}
@@ -22,14 +19,13 @@ use Rattle.running_store.specs.Running.{view_of}
 use Rattle.running_store.specs.StoreView.{rows_of, state_of}
 use Rattle.running_store.specs.Steps.{Asks}
 use Rattle.store_model.specs.Phases.{Committing}
-use Rattle.running_store.specs.declared.job.RunningJob.{RunningJob}
 use Rattle.running_store.specs.declared.replacements.Commit.{Commit}
 use Rattle.running_store.proofs.Resolved.{unmarked_base}
-use Rattle.job_begins.proofs.JobPlaces.{clear_again, taken_in_use}
-use Rattle.job_begins.proofs.JobBegin.{same_pool}
+use Rattle.job_begins.proofs.JobPlaces.{pool_again, same_pool, taken_in_use}
 use Rattle.job_begins.proofs.JobTaken.{first_cluster, has_one, internal_fit, job_begins, job_kept}
 use Rattle.job_begins.proofs.JobTaken.{lacks_clusters, lacks_pages, next_head, no_memory, once, slots_within}
 use Rattle.job_begins.proofs.JobTaken.{was_there, xattrs_fit}
+use Rattle.job_begins.proofs.PassedOn.{passed_on}
 use Rattle.job_begins.proofs.begin.job_for.Goals as goal
 
 -- what has a commit in the model has one
@@ -51,22 +47,19 @@ pub returns-in_err-effects-clause-lack : goal.returns-in_err-effects-clause-lack
 returns-in_err-effects-clause-lack g c =
     let refused = λ (reply : Reply). Asks (view_of c.args.running.now) c.args.channel
     (λ command. IsRefusedAtBegin (state_of g.D.PageDisk (view_of c.args.running.now)) command reply) in
-    let e = err_from_is_err_and c.from_residual.result c.from_residual.ensures.1 in
-    subst (λ (r : Result RunningJob Reply). IfErr r refused) (sym e.1)
-    (subst refused (sym e.2) (no_memory g.D.PageDisk (view_of c.args.running.now) c.args.channel c.requires.posted
+    passed_on c.from_residual.result c.from_residual.ensures.1 refused
+    (no_memory g.D.PageDisk (view_of c.args.running.now) c.args.channel c.requires.posted
     c.requires.running
-    c.requires.unmarked c.requires.runs c.args.head c.args.new c.args.zeros.now c.requires.asks))
+    c.requires.unmarked c.requires.runs c.args.head c.args.new c.args.zeros.now c.requires.asks)
 
 pub returns-in_err-effects-2-clause-lack : goal.returns-in_err-effects-2-clause-lack
 returns-in_err-effects-2-clause-lack g c =
     let refused = λ (reply : Reply). Asks (view_of c.args.running.now) c.args.channel
     (λ command. IsRefusedAtBegin (state_of g.D.PageDisk (view_of c.args.running.now)) command reply) in
-    let result = c.from_residual-in_err-effects-2.result in
-    let e = err_from_is_err_and result c.from_residual-in_err-effects-2.ensures.1 in
-    subst (λ (r : Result RunningJob Reply). IfErr r refused) (sym e.1)
-    (subst refused (sym e.2) (no_memory g.D.PageDisk (view_of c.args.running.now) c.args.channel c.requires.posted
+    passed_on c.from_residual-in_err-effects-2.result c.from_residual-in_err-effects-2.ensures.1 refused
+    (no_memory g.D.PageDisk (view_of c.args.running.now) c.args.channel c.requires.posted
     c.requires.running
-    c.requires.unmarked c.requires.runs c.args.head c.args.new c.args.zeros.now c.requires.asks))
+    c.requires.unmarked c.requires.runs c.args.head c.args.new c.args.zeros.now c.requires.asks)
 
 pub lack_beside_clusters-requires-clause-xattrs : goal.lack_beside_clusters-requires-clause-xattrs
 lack_beside_clusters-requires-clause-xattrs g c =
@@ -137,9 +130,8 @@ clear_places-requires-clause-distinct g c =
 
 pub clear_places-requires-clause-in_use : goal.clear_places-requires-clause-in_use
 clear_places-requires-clause-in_use g c =
-    subst (λ (bits : List Bool). All (λ x. is_in bits x ≡ true) c.in_ok-effects-2.field-0)
-    (sym c.in_ok-effects-2.ensures.bits)
-    (taken_in_use c.args.running.now.clusters.bits c.in_ok-effects-2.field-0 c.in_ok-effects-2.ensures.claimed.least)
+    taken_in_use c.args.running.now.clusters.bits c.in_ok-effects-2.field-0 c.in_ok-effects-2.ensures.claimed.least _
+    c.in_ok-effects-2.ensures.bits
 
 pub returns-in-Ok-clause-begins : goal.returns-in-Ok-clause-begins
 returns-in-Ok-clause-begins g c =
@@ -208,13 +200,10 @@ returns-in-Err-clause-lack g c =
 pub returns-in-Err-clause-same : goal.returns-in-Err-clause-same
 returns-in-Err-clause-same g c =
     let running = c.args.running.now in
-    let claimed = c.in_ok-effects-2.field-0 in
     let pages = same_pool c.prepare.new.pages running.pages c.in-Err.ensures.same
     (c.prepare.ensures.unclaimed ∙ sym c.requires.order.no_page) in
-    let clusters = same_pool c.clear_places.new.pool running.clusters
-    (c.clear_places.ensures.bits ∙ ap (λ (bits : List Bool). all_set bits claimed false)
-    c.in_ok-effects-2.ensures.bits
-    ∙ clear_again running.clusters.bits claimed c.in_ok-effects-2.ensures.claimed.least)
+    let clusters = pool_again running.clusters c.clear_places.new.pool c.in_ok-effects-2.field-0
+    c.in_ok-effects-2.ensures.claimed.least _ c.in_ok-effects-2.ensures.bits c.clear_places.ensures.bits
     (c.clear_places.ensures.unclaimed ∙ sym c.requires.order.no_cluster) in
     ap (λ (q : PoolState). record running { pages = q; clusters = c.clear_places.new.pool }) pages
     ∙ ap (λ (q : PoolState). record running { clusters = q }) clusters

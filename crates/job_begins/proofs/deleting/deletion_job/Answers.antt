@@ -1,20 +1,18 @@
-use Rattle.std.proofs.Common.{◌≡◌, ◌<◌, length, refl, sym, ap, subst, arith}
-use Rattle.std.proofs.Common.{IfErr, Result}
+use Rattle.std.proofs.Common.{◌<◌, length, refl, ap, arith}
 use Rattle.std.specs.Option.{option_map}
-use Rattle.std.proofs.lemmas.Result.{err_from_is_err_and, IfErr-weaker, IfOk-weaker}
-use Rattle.pools.specs.Pool.{PoolState}
+use Rattle.std.proofs.lemmas.Result.{IfErr-weaker, IfOk-weaker}
 use Rattle.volume_model.specs.declared.reply.Reply.{Reply}
 use Rattle.store_model.specs.Cases.{IsRefusedAtBegin}
 use Rattle.running_store.specs.Jobs.{job_seen}
 use Rattle.running_store.specs.Running.{view_of}
 use Rattle.running_store.specs.Steps.{Asks}
 use Rattle.running_store.specs.StoreView.{state_of}
-use Rattle.running_store.specs.declared.job.RunningJob.{RunningJob}
 use Rattle.job_begins.proofs.DeletionAsked.{chain_of, chain_of_clone, going_low, going_stored, taking_low}
 use Rattle.job_begins.proofs.DeletionAsked.{taking_stored}
 use Rattle.job_begins.proofs.DeletionBegins.{asked_at, begins_deletion, for_memory, for_short, keeps_deletion}
 use Rattle.job_begins.proofs.JobPlanned.{all_fit}
 use Rattle.job_begins.proofs.RepairBegins.{room}
+use Rattle.job_begins.proofs.PassedOn.{passed_on}
 use Rattle.job_begins.proofs.deleting.deletion_job.Goals as goal
 
 pub parts_of-requires-clause-chain : goal.parts_of-requires-clause-chain
@@ -71,10 +69,9 @@ pub returns-in_err-parts-clause-lack : goal.returns-in_err-parts-clause-lack
 returns-in_err-parts-clause-lack g c =
     let p = view_of c.args.running.now in
     let refused = λ (reply : Reply). Asks p c.args.channel (λ k. IsRefusedAtBegin (state_of g.D.PageDisk p) k reply) in
-    let e = err_from_is_err_and c.from_residual.result c.from_residual.ensures.1 in
-    subst (λ (r : Result RunningJob Reply). IfErr r refused) (sym e.1)
-    (subst refused (sym e.2) (for_memory g.D.PageDisk p c.args.channel c.requires.running c.requires.unmarked
-    c.requires.runs (ap (λ o. option_map job_seen o) c.requires.no_job) c.args.ask c.requires.asks))
+    passed_on c.from_residual.result c.from_residual.ensures.1 refused
+    (for_memory g.D.PageDisk p c.args.channel c.requires.running c.requires.unmarked
+    c.requires.runs (ap (λ o. option_map job_seen o) c.requires.no_job) c.args.ask c.requires.asks)
 
 pub returns-clause-lack : goal.returns-clause-lack
 returns-clause-lack g c =

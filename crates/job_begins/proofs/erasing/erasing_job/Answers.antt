@@ -11,7 +11,7 @@ use Rattle.running_store.specs.StoreView.{base_of, rows_of, state_of}
 use Rattle.running_store.specs.declared.job.Serves.TheVariants as whom
 use Rattle.running_store.specs.declared.replacements.LaidReplacement.{LaidReplacement}
 use Rattle.job_begins.proofs.EraseBegins.{begins_erasing, blob_there, chain_there, erasing, keeps_erasing}
-use Rattle.job_begins.proofs.RepairBegins.{room}
+use Rattle.job_begins.proofs.RepairBegins.{room, room_for}
 use Rattle.job_begins.proofs.erasing.erasing_job.Goals as goal
 
 pub places_behind-requires : goal.places_behind-requires
@@ -28,11 +28,8 @@ clusters_beside-requires g c =
 
 pub missing-requires : goal.missing-requires
 missing-requires g c =
-    let p = view_of c.args.running.now in
-    let at : base_of p.metas p.marked c.args.head ≡ Some c.in-Some.meta.now =
-    sym c.base_at.ensures ∙ ap option_copied c.in-Some.is in
-    λ k among. subst (λ (n : ℕ). k < n) (sym c.in_ok-beside.ensures.count)
-    (room g.D.PageDisk p c.requires.running c.requires.runs c.args.head c.in-Some.meta.now k at among)
+    room_for g.D.PageDisk (view_of c.args.running.now) c.requires.running c.requires.runs c.args.head
+    c.in-Some.meta.now (sym c.base_at.ensures ∙ ap option_copied c.in-Some.is) _ c.in_ok-beside.ensures.count
 
 pub unreachable-requires : goal.unreachable-requires
 unreachable-requires g c =

@@ -1,6 +1,5 @@
-use Rattle.std.proofs.Common.{◌≡◌, ◌<◌, ◌∙◌, All, Bool, true, false, List, length, refl, sym, ap, subst, inl, inr}
+use Rattle.std.proofs.Common.{◌<◌, ◌∙◌, true, length, refl, sym, ap, subst, inl, inr}
 use Rattle.std.proofs.Common.{arith}
-use Rattle.bit_array.specs.Bits.{is_in}
 use Rattle.pools.specs.Pool.{clear_in}
 use Rattle.store_model.specs.Jobs.{with_clusters, AreForZeros}
 use Rattle.store_model.specs.Places.{all_set}
@@ -20,15 +19,13 @@ clear_places-requires-clause-distinct c =
 
 pub clear_places-requires-clause-in_use : goal.clear_places-requires-clause-in_use
 clear_places-requires-clause-in_use c =
-    subst (λ (bits : List Bool). All (λ x. is_in bits x ≡ true) c.in_ok-claimed.claimed)
-    (sym c.in_ok-claimed.ensures.bits)
-    (taken_in_use c.args.clusters.now.bits c.in_ok-claimed.claimed c.in_ok-claimed.ensures.least)
+    taken_in_use c.args.clusters.now.bits c.in_ok-claimed.claimed c.in_ok-claimed.ensures.least _
+    c.in_ok-claimed.ensures.bits
 
 pub returns-in-Err-clause-memory : goal.returns-in-Err-clause-memory
 returns-in-Err-clause-memory c =
-    c.clear_places.ensures.bits
-    ∙ ap (λ (bits : List Bool). all_set bits c.in_ok-claimed.claimed false) c.in_ok-claimed.ensures.bits
-    ∙ clear_again c.args.clusters.now.bits c.in_ok-claimed.claimed c.in_ok-claimed.ensures.least
+    clear_again c.args.clusters.now.bits c.in_ok-claimed.claimed c.in_ok-claimed.ensures.least _ _
+    c.in_ok-claimed.ensures.bits c.clear_places.ensures.bits
 
 pub returns-then-clear_count-count-clause-claimed : goal.returns-then-clear_count-count-clause-claimed
 returns-then-clear_count-count-clause-claimed c =

@@ -1,7 +1,7 @@
-use Rattle.std.proofs.Common.{refl, sym, ap, subst}
+use Rattle.std.proofs.Common.{sym, ap, subst}
 use Rattle.std.specs.Option.{option_map}
 use Rattle.store_model.specs.Cases.Halt.{MayLog, stage_after}
-use Rattle.store_model.specs.Rows.{Answered, Decided, Row, Stage}
+use Rattle.store_model.specs.Rows.{Row, Stage}
 use Rattle.running_store.specs.Jobs.{job_seen}
 use Rattle.running_store.specs.Running.{view_of}
 use Rattle.running_store.specs.StoreView.{state_of}

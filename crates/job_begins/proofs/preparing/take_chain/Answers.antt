@@ -1,6 +1,5 @@
-use Rattle.std.proofs.Common.{◌≡◌, ℕ, List, Bool, true, false, All, ap, sym, subst, ◌∙◌, length}
+use Rattle.std.proofs.Common.{ℕ, List, true, ap, subst, ◌∙◌, length}
 use Rattle.store_model.specs.Places.{AreLeastClear}
-use Rattle.bit_array.specs.Bits.{is_in}
 use Rattle.store_model.specs.Places.{all_set}
 use Rattle.store_model.proofs.Sets.{are_distinct}
 use Rattle.md_chain.proofs.Fitting.{some_parts}
@@ -15,14 +14,12 @@ clear_places-requires-clause-distinct c =
 
 pub clear_places-requires-clause-in_use : goal.clear_places-requires-clause-in_use
 clear_places-requires-clause-in_use c =
-    subst (λ (bits : List Bool). All (λ x. is_in bits x ≡ true) c.in_ok-taken.taken) (sym c.in_ok-taken.ensures.bits)
-    (taken_in_use c.args.pages.now.bits c.in_ok-taken.taken c.in_ok-taken.ensures.least)
+    taken_in_use c.args.pages.now.bits c.in_ok-taken.taken c.in_ok-taken.ensures.least _ c.in_ok-taken.ensures.bits
 
 pub returns-clause-memory : goal.returns-clause-memory
 returns-clause-memory c =
+    clear_again c.args.pages.now.bits c.in_ok-taken.taken c.in_ok-taken.ensures.least _ _ c.in_ok-taken.ensures.bits
     c.clear_places.ensures.bits
-    ∙ ap (λ (bits : List Bool). all_set bits c.in_ok-taken.taken false) c.in_ok-taken.ensures.bits
-    ∙ clear_again c.args.pages.now.bits c.in_ok-taken.taken c.in_ok-taken.ensures.least
 
 pub behind_head-fresh-requires : goal.behind_head-fresh-requires
 behind_head-fresh-requires c = some_taken c.args.makes (length c.in_ok-taken.taken)

@@ -1,4 +1,4 @@
-use Rattle.std.proofs.Common.{◌≡◌, ◌<◌, ℕ, List, ◌∷◌, None, Some, sym, ap, ◌∙◌, subst}
+use Rattle.std.proofs.Common.{◌≡◌, List, ◌∷◌, None, Some, sym, ap, ◌∙◌, subst}
 use Rattle.std.specs.Prelude.{is_some, option_copied}
 use Rattle.std.specs.Option.{option_map}
 use Rattle.store_model.specs.StoreState.{marked}
@@ -9,7 +9,7 @@ use Rattle.running_store.specs.Running.{view_of}
 use Rattle.running_store.specs.StoreView.{base_of, state_of}
 use Rattle.running_store.specs.declared.job.Serves.TheVariants as whom
 use Rattle.running_store.specs.declared.replacements.LaidReplacement.{LaidReplacement}
-use Rattle.job_begins.proofs.RepairBegins.{chain_there, removes, removes_to, room, some_there}
+use Rattle.job_begins.proofs.RepairBegins.{chain_there, removes, removes_to, room, room_for, some_there}
 use Rattle.job_begins.proofs.repairing.erase.Goals as goal
 
 pub places_behind-requires : goal.places_behind-requires
@@ -25,11 +25,8 @@ clusters_beside-requires g c =
 
 pub missing-requires : goal.missing-requires
 missing-requires g c =
-    let p = view_of c.args.running.now in
-    let at : base_of p.metas p.marked c.args.head ≡ Some c.in-Some.meta.now =
-    sym c.base_at.ensures ∙ ap option_copied c.in-Some.is in
-    λ k among. subst (λ (n : ℕ). k < n) (sym c.in_ok-beside.ensures.count)
-    (room g.D.PageDisk p c.requires.running c.requires.runs c.args.head c.in-Some.meta.now k at among)
+    room_for g.D.PageDisk (view_of c.args.running.now) c.requires.running c.requires.runs c.args.head
+    c.in-Some.meta.now (sym c.base_at.ensures ∙ ap option_copied c.in-Some.is) _ c.in_ok-beside.ensures.count
 
 pub returns-clause-begins : goal.returns-clause-begins
 returns-clause-begins g c =

@@ -1,11 +1,9 @@
-use Rattle.std.proofs.Common.{◌≡◌, ◌<◌, length, sym, ap, subst, arith}
-use Rattle.std.proofs.Common.{IfErr, Result, Some}
+use Rattle.std.proofs.Common.{◌<◌, length, sym, ap, subst, arith}
+use Rattle.std.proofs.Common.{Some}
 use Rattle.std.specs.Prelude.{slice_set}
 use Rattle.std.specs.Option.{option_map}
-use Rattle.std.proofs.lemmas.Result.{err_from_is_err_and}
 use Rattle.volume_model.specs.declared.reply.Reply.{Reply}
 use Rattle.io_freeze.specs.Guards.{GuardsState}
-use Rattle.pools.specs.Pool.{PoolState}
 use Rattle.store_model.specs.StoreState.{marked}
 use Rattle.store_model.specs.Cases.{Begins, IsRefusedAtBegin}
 use Rattle.store_model.specs.Rows.{InJob}
@@ -14,12 +12,12 @@ use Rattle.running_store.specs.Jobs.{job_seen, to_come}
 use Rattle.running_store.specs.Running.{view_of}
 use Rattle.running_store.specs.Steps.{Asks}
 use Rattle.running_store.specs.StoreView.{rows_of, state_of}
-use Rattle.running_store.specs.declared.job.RunningJob.{RunningJob}
 use Rattle.job_begins.specs.Begins.{IsFreshHead}
 use Rattle.job_begins.proofs.JobPlanned.{all_fit}
 use Rattle.job_begins.proofs.SnapshotBegins.{snapshot_begins_so, snapshot_headed, snapshot_kept_so}
 use Rattle.job_begins.proofs.SnapshotKnown.{known, next_head, numbered}
 use Rattle.job_begins.proofs.SnapshotLacks.{snapshot_memory, snapshot_short}
+use Rattle.job_begins.proofs.PassedOn.{passed_on}
 use Rattle.job_begins.proofs.snapshotting.snapshot_job.Goals as goal
 
 pub parts_of-requires-clause-chain : goal.parts_of-requires-clause-chain
@@ -61,10 +59,8 @@ returns-in_err-parts-clause-lack g c =
     let s = state_of g.D.PageDisk (view_of c.args.running.now) in
     let refused = λ (reply : Reply). Asks (view_of c.args.running.now) c.args.channel
     (λ command. IsRefusedAtBegin s command reply) in
-    let e = err_from_is_err_and c.from_residual.result c.from_residual.ensures.1 in
-    subst (λ (r : Result RunningJob Reply). IfErr r refused) (sym e.1)
-    (subst refused (sym e.2)
-    (λ command rest left. snapshot_memory s command c.args.ask (c.requires.asks command rest left)))
+    passed_on c.from_residual.result c.from_residual.ensures.1 refused
+    (λ command rest left. snapshot_memory s command c.args.ask (c.requires.asks command rest left))
 
 pub job-requires-clause-next : goal.job-requires-clause-next
 job-requires-clause-next g c =
@@ -115,9 +111,7 @@ returns-in_err-job-clause-lack g c =
     let s = state_of g.D.PageDisk (view_of c.args.running.now) in
     let refused = λ (reply : Reply). Asks (view_of c.args.running.now) c.args.channel
     (λ command. IsRefusedAtBegin s command reply) in
-    let e = err_from_is_err_and c.from_residual-in_err-job.result c.from_residual-in_err-job.ensures.1 in
-    subst (λ (r : Result RunningJob Reply). IfErr r refused) (sym e.1)
-    (subst refused (sym e.2)
+    passed_on c.from_residual-in_err-job.result c.from_residual-in_err-job.ensures.1 refused
     (λ command rest left. snapshot_short s c.requires.running c.requires.unmarked c.requires.runs
     (ap (λ o. option_map job_seen o) c.requires.no_job) command c.args.ask (c.requires.asks command rest left)
-    c.in_ok-parts.parts.drafts c.in_ok-parts.ensures.drafts c.in_err-job.field-0.0 c.in_err-job.ensures.lack))
+    c.in_ok-parts.parts.drafts c.in_ok-parts.ensures.drafts c.in_err-job.field-0.0 c.in_err-job.ensures.lack)

@@ -16,7 +16,7 @@ use Rattle.running_store.specs.declared.running.Running.{Running}
 use Rattle.running_store.proofs.BaseBehind.{base_behind}
 use Rattle.running_store.proofs.PlainFacts.{on_err, on_ok, zeros}
 use Rattle.running_store.proofs.Without.{heads_gone}
-use Rattle.metadata_turns.specs.Telling.{gone_on, HasFailed, HasRow, HasWaitingRow}
+use Rattle.metadata_turns.specs.Telling.{gone_on, HasRow}
 use Rattle.metadata_turns.proofs.Behind.{left_seen}
 use Rattle.metadata_turns.proofs.AtHead.{told_row}
 use Rattle.metadata_turns.proofs.HeadFailed.{head_failed}
@@ -37,9 +37,9 @@ replace-requires g c =
 
 pub fail_job-requires-clause-row : goal.fail_job-requires-clause-row
 fail_job-requires-clause-row g c =
-    subst (HasWaitingRow c.args.running.now.filling c.args.running.now.rows.items) (sym c.requires.waits)
-    (waiting_row g.D.PageDisk (view_of c.args.running.now) (removing_for c.args.beside.serves c.args.erasure
-    c.args.beside.old (phases_in c.args.beside.later.items)) c.requires.at_work c.requires.order.seventeen)
+    waiting_row g.D.PageDisk (view_of c.args.running.now) (removing_for c.args.beside.serves c.args.erasure
+    c.args.beside.old (phases_in c.args.beside.later.items)) c.requires.at_work c.requires.order.seventeen
+    c.requires.waits
 
 -- what is known of its device calls
 abbrev replaced : {D : Type 0} (d : Ghosts D) (old new : D) (at : ℕ) (page : List ℕ)
@@ -64,8 +64,7 @@ returns-then-is_err-clause-case g c =
     c.requires.order.seventeen
     (on_err c.replace.result _ (sym c.is_err.ensures.value ∙ c.if-is_err.true) c.replace.ensures.fails)
     (view_of c.fail_job.new.running)
-    (subst (λ o. HasFailed job.freeze o (view_of (record c.args.running.now { disk = disk }))
-    (view_of c.fail_job.new.running) (d.clock c.fail_job.new.running.disk)) c.requires.waits c.fail_job.ensures.failed)
+    c.requires.waits c.fail_job.ensures.failed
 
 pub forget-requires-clause-places : goal.forget-requires-clause-places
 forget-requires-clause-places g c = c.requires.kept.0.places

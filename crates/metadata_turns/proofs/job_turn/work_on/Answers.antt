@@ -1,18 +1,18 @@
-use Rattle.std.proofs.Common.{◌≡◌, ◌≤◌, ℕ, zero, suc, false, Option, Some, List, [], ◌∷◌, length, drop, take, refl, sym, ◌∙◌}
-use Rattle.std.proofs.Common.{ap}
-use Rattle.std.proofs.Common.{subst, arith}
+use Rattle.std.proofs.Common.{◌≡◌, ◌-◌, ◌≤◌, ℕ, zero, suc, false, Option, List, [], ◌∷◌, length, drop, take, refl}
+use Rattle.std.proofs.Common.{sym, ◌∙◌, ap, subst, arith}
 use Rattle.store_model.specs.Phases.{writing, erasing, Phase, Replaces}
 use Rattle.store_model.specs.StoreState.{JobState}
 use Rattle.running_store.specs.Jobs.{commit_in, job_seen, phases_in, replacing_of, waits_for_job, writing_for, IsHeaded}
-use Rattle.running_store.specs.Blobs.{blobs_of, WillBeKept}
+use Rattle.running_store.specs.Blobs.{blobs_of, WillBeKept, Blobs}
 use Rattle.running_store.specs.Running.{view_of}
-use Rattle.running_store.specs.StoreView.{state_of}
+use Rattle.running_store.specs.StoreView.{state_of, StoreView}
 use Rattle.running_store.specs.declared.job.RunningJob.{RunningJob}
 use Rattle.running_store.specs.declared.job.Serves.{Serves}
 use Rattle.running_store.specs.declared.job.Work.{Work}
 use Rattle.running_store.specs.declared.replacements.Planned.{Planned}
 use Rattle.metadata_turns.specs.JobTurns.{with_job, IsAtWork, TurnsJob}
 use Rattle.metadata_turns.proofs.AtWork.{pages_planned}
+use Rattle.page_disk.specs.declared.disk.PageDisk.{Ghosts}
 use Rattle.metadata_turns.proofs.job_turn.work_on.Goals as goal
 
 -- the job with this work, with no mark before it
@@ -23,10 +23,22 @@ with_work j w = record j { marks = false; work = w }
 seen_work : (j : RunningJob) (w : Work) → j.marks ≡ false → j.work ≡ w → job_seen j ≡ job_seen (with_work j w)
 seen_work j w none is = ap (λ b. job_seen (record j { marks = b })) none ∙ ap (λ v. job_seen (with_work j v)) is
 
--- and known of it
-known_work : (P : RunningJob → Type 0) (j : RunningJob) (w : Work) → j.marks ≡ false → j.work ≡ w → P j
-    → P (with_work j w)
-known_work P j w none is x = subst (λ v. P (with_work j v)) is (subst (λ b. P (record j { marks = b })) none x)
+-- what is known of a job that a channel or a row may wait for
+record IsKnown {D : Type 0} (d : Ghosts D) (p : StoreView D) (blobs : Blobs) (waiting : Option ℕ) (j : RunningJob)
+    : Type 0 where
+  headed : IsHeaded j
+  waits : waiting ≡ waits_for_job (job_seen j)
+  kept : WillBeKept blobs j
+  at_work : IsAtWork d p (job_seen j)
+
+-- it is known of the job with this work
+known_work : {D : Type 0} (d : Ghosts D) (p : StoreView D) (blobs : Blobs) {waiting : Option ℕ} (j : RunningJob)
+    {w : Work} → IsHeaded j → waiting ≡ waits_for_job (job_seen j) → WillBeKept blobs j → IsAtWork d p (job_seen j)
+    → j.marks ≡ false → j.work ≡ w → IsKnown d p blobs waiting (with_work j w)
+known_work d p blobs {waiting} j headed waits kept at_work none is =
+    subst (λ v. IsKnown d p blobs waiting (with_work j v)) is
+    (subst (λ b. IsKnown d p blobs waiting (record j { marks = b })) none
+    (record { headed = headed; waits = waits; kept = kept; at_work = at_work }))
 
 -- all fresh pages are written
 all_written : (serves : Serves) (planned : Planned) (old : List ℕ) (written : ℕ) (more : List Phase)
@@ -58,172 +70,131 @@ all_written serves planned old written more le =
     dropped (x ∷ xs) zero le = absurd (omega (arith, le))
     dropped (x ∷ xs) (suc n) le = dropped xs n (omega (arith, le))
 
-pub zero-requires-clause-zeroed : goal.zero-requires-clause-zeroed
-zero-requires-clause-zeroed g c =
-    (known_work IsHeaded c.args.job _ c.requires.unmarked c.in-Zeroing.is c.requires.headed).0
+-- no fresh page is left where all but the head of the plan are written
+no_fresh : {D : Type 0} (d : Ghosts D) (p : StoreView D) (serves : Serves) (planned : Planned) (old : List ℕ)
+    (written : ℕ) (more : List Phase) → IsAtWork d p (writing_for serves planned old written more)
+    → (pages : ℕ) → pages ≡ length planned.pages → pages - 1 ≤ written
+    → writing_for serves planned old written more ≡ writing_for serves planned old (length (drop 1 planned.chain)) more
+no_fresh d p serves planned old written more at pages pages_are none =
+    let now = writing_for serves planned old written more in
+    let all = pages_planned (state_of d (with_job p now)) at.running at.not_stopped serves planned old written more refl
+    in
+    all_written serves planned old written more (omega (arith, all, pages_are, none))
 
-pub zero-requires-clause-follows : goal.zero-requires-clause-follows
-zero-requires-clause-follows g c =
-    (known_work IsHeaded c.args.job _ c.requires.unmarked c.in-Zeroing.is c.requires.headed).1
-
-pub zero-requires-clause-kept : goal.zero-requires-clause-kept
-zero-requires-clause-kept g c =
-    known_work (WillBeKept (blobs_of c.args.running.now)) c.args.job _ c.requires.unmarked c.in-Zeroing.is c.requires.kept
-
-pub zero-requires-clause-waits : goal.zero-requires-clause-waits
-zero-requires-clause-waits g c =
-    c.requires.waits ∙ ap waits_for_job (seen_work c.args.job _ c.requires.unmarked c.in-Zeroing.is)
-
-pub zero-requires-clause-at_work : goal.zero-requires-clause-at_work
-zero-requires-clause-at_work g c =
-    subst (IsAtWork g.D.PageDisk (view_of c.args.running.now)) (seen_work c.args.job _ c.requires.unmarked c.in-Zeroing.is)
-    c.requires.at_work
-
-pub write_fresh-requires-clause-matched : goal.write_fresh-requires-clause-matched
-write_fresh-requires-clause-matched g c =
-    (known_work IsHeaded c.args.job _ c.requires.unmarked c.in-Writing.is c.requires.headed).0
-
-pub write_fresh-requires-clause-follows : goal.write_fresh-requires-clause-follows
-write_fresh-requires-clause-follows g c =
-    (known_work IsHeaded c.args.job _ c.requires.unmarked c.in-Writing.is c.requires.headed).1
-
-pub write_fresh-requires-clause-kept : goal.write_fresh-requires-clause-kept
-write_fresh-requires-clause-kept g c =
-    known_work (WillBeKept (blobs_of c.args.running.now)) c.args.job _ c.requires.unmarked c.in-Writing.is c.requires.kept
-
-pub write_fresh-requires-clause-waits : goal.write_fresh-requires-clause-waits
-write_fresh-requires-clause-waits g c =
-    c.requires.waits ∙ ap waits_for_job (seen_work c.args.job _ c.requires.unmarked c.in-Writing.is)
-
-pub write_fresh-requires-clause-at_work : goal.write_fresh-requires-clause-at_work
-write_fresh-requires-clause-at_work g c =
-    subst (IsAtWork g.D.PageDisk (view_of c.args.running.now)) (seen_work c.args.job _ c.requires.unmarked c.in-Writing.is)
-    c.requires.at_work
-
-pub replace_head-requires-clause-matched : goal.replace_head-requires-clause-matched
-replace_head-requires-clause-matched g c =
-    (known_work IsHeaded c.args.job _ c.requires.unmarked c.in-Writing.is c.requires.headed).0
-
-pub replace_head-requires-clause-follows : goal.replace_head-requires-clause-follows
-replace_head-requires-clause-follows g c =
-    (known_work IsHeaded c.args.job _ c.requires.unmarked c.in-Writing.is c.requires.headed).1
-
-pub replace_head-requires-clause-kept : goal.replace_head-requires-clause-kept
-replace_head-requires-clause-kept g c =
-    known_work (WillBeKept (blobs_of c.args.running.now)) c.args.job _ c.requires.unmarked c.in-Writing.is c.requires.kept
-
-pub remove_head-requires-clause-removed : goal.remove_head-requires-clause-removed
-remove_head-requires-clause-removed g c =
-    (known_work IsHeaded c.args.job _ c.requires.unmarked c.in-Removing.is c.requires.headed).0
-
-pub remove_head-requires-clause-follows : goal.remove_head-requires-clause-follows
-remove_head-requires-clause-follows g c =
-    (known_work IsHeaded c.args.job _ c.requires.unmarked c.in-Removing.is c.requires.headed).1
-
-pub remove_head-requires-clause-kept : goal.remove_head-requires-clause-kept
-remove_head-requires-clause-kept g c =
-    known_work (WillBeKept (blobs_of c.args.running.now)) c.args.job _ c.requires.unmarked c.in-Removing.is c.requires.kept
-
-pub remove_head-requires-clause-waits : goal.remove_head-requires-clause-waits
-remove_head-requires-clause-waits g c =
-    c.requires.waits ∙ ap waits_for_job (seen_work c.args.job _ c.requires.unmarked c.in-Removing.is)
-
-pub remove_head-requires-clause-at_work : goal.remove_head-requires-clause-at_work
-remove_head-requires-clause-at_work g c =
-    subst (IsAtWork g.D.PageDisk (view_of c.args.running.now)) (seen_work c.args.job _ c.requires.unmarked c.in-Removing.is)
-    c.requires.at_work
-
-pub erase-requires-clause-follows : goal.erase-requires-clause-follows
-erase-requires-clause-follows g c =
-    (known_work IsHeaded c.args.job _ c.requires.unmarked c.in-Erasing.is c.requires.headed).1
-
-pub erase-requires-clause-kept : goal.erase-requires-clause-kept
-erase-requires-clause-kept g c =
-    known_work (WillBeKept (blobs_of c.args.running.now)) c.args.job _ c.requires.unmarked c.in-Erasing.is c.requires.kept
-
-pub erase-requires-clause-waits : goal.erase-requires-clause-waits
-erase-requires-clause-waits g c =
-    c.requires.waits ∙ ap waits_for_job (seen_work c.args.job _ c.requires.unmarked c.in-Erasing.is)
-
-pub erase-requires-clause-at_work : goal.erase-requires-clause-at_work
-erase-requires-clause-at_work g c =
-    subst (IsAtWork g.D.PageDisk (view_of c.args.running.now)) (seen_work c.args.job _ c.requires.unmarked c.in-Erasing.is)
-    c.requires.at_work
-
-pub free-requires-clause-follows : goal.free-requires-clause-follows
-free-requires-clause-follows g c =
-    (known_work IsHeaded c.args.job _ c.requires.unmarked c.in-Erasing.is c.requires.headed).1
-
-pub free-requires-clause-kept : goal.free-requires-clause-kept
-free-requires-clause-kept g c =
-    known_work (WillBeKept (blobs_of c.args.running.now)) c.args.job _ c.requires.unmarked c.in-Erasing.is c.requires.kept
-
-pub free-requires-clause-waits : goal.free-requires-clause-waits
-free-requires-clause-waits g c =
-    c.requires.waits ∙ ap waits_for_job (seen_work c.args.job _ c.requires.unmarked c.in-Erasing.is)
-
-pub free-requires-clause-at_work : goal.free-requires-clause-at_work
-free-requires-clause-at_work g c =
-    subst (IsAtWork g.D.PageDisk (view_of c.args.running.now)) (seen_work c.args.job _ c.requires.unmarked c.in-Erasing.is)
-    c.requires.at_work
+pub zero-requires : goal.zero-requires
+zero-requires g c =
+    let x = known_work g.D.PageDisk (view_of c.args.running.now) (blobs_of c.args.running.now) c.args.job
+    c.requires.headed c.requires.waits c.requires.kept c.requires.at_work c.requires.unmarked c.in-Zeroing.is in
+    record {
+      order = c.requires.order;
+      zeroed = x.headed.0;
+      follows = x.headed.1;
+      waits = x.waits;
+      kept = x.kept;
+      at_work = x.at_work;
+    }
 
 pub overflow_sub-fresh : goal.overflow_sub-fresh
 overflow_sub-fresh g c =
-    let j = c.args.job in
-    let more = phases_in j.later.items in
-    let seen = seen_work j _ c.requires.unmarked c.in-Writing.is in
-    let at = subst (IsAtWork g.D.PageDisk (view_of c.args.running.now)) seen c.requires.at_work in
-    let now = writing_for j.serves c.in-Writing.planned j.old c.in-Writing.written more in
-    let pages = pages_planned (state_of g.D.PageDisk (with_job (view_of c.args.running.now) now)) at.running
-    at.not_stopped j.serves c.in-Writing.planned j.old c.in-Writing.written more refl in
+    let x = known_work g.D.PageDisk (view_of c.args.running.now) (blobs_of c.args.running.now) c.args.job
+    c.requires.headed c.requires.waits c.requires.kept c.requires.at_work c.requires.unmarked c.in-Writing.is in
+    let now = writing_for c.args.job.serves c.in-Writing.planned c.args.job.old c.in-Writing.written
+    (phases_in c.args.job.later.items) in
+    let pages = pages_planned (state_of g.D.PageDisk (with_job (view_of c.args.running.now) now)) x.at_work.running
+    x.at_work.not_stopped c.args.job.serves c.in-Writing.planned c.args.job.old c.in-Writing.written
+    (phases_in c.args.job.later.items) refl in
     let len = c.len-fresh.ensures in
     omega (arith, pages, len)
 
-pub replace_head-requires-clause-waits : goal.replace_head-requires-clause-waits
-replace_head-requires-clause-waits g c =
-    let j = c.args.job in
-    let more = phases_in j.later.items in
-    let seen = seen_work j _ c.requires.unmarked c.in-Writing.is in
-    let at = subst (IsAtWork g.D.PageDisk (view_of c.args.running.now)) seen c.requires.at_work in
-    let now = writing_for j.serves c.in-Writing.planned j.old c.in-Writing.written more in
-    let pages = pages_planned (state_of g.D.PageDisk (with_job (view_of c.args.running.now) now)) at.running
-    at.not_stopped j.serves c.in-Writing.planned j.old c.in-Writing.written more refl in
-    let len = c.len-fresh.ensures in
-    let none = c.if-written-fresh.false in
-    let all : length (drop 1 c.in-Writing.planned.chain) ≤ c.in-Writing.written = omega (arith, pages, len, none) in
-    let whole = seen ∙ all_written j.serves c.in-Writing.planned j.old c.in-Writing.written more all in
-    c.requires.waits ∙ ap waits_for_job whole
+pub write_fresh-requires : goal.write_fresh-requires
+write_fresh-requires g c =
+    let x = known_work g.D.PageDisk (view_of c.args.running.now) (blobs_of c.args.running.now) c.args.job
+    c.requires.headed c.requires.waits c.requires.kept c.requires.at_work c.requires.unmarked c.in-Writing.is in
+    record {
+      order = c.requires.order;
+      matched = x.headed.0;
+      follows = x.headed.1;
+      waits = x.waits;
+      kept = x.kept;
+      at_work = x.at_work;
+      left = omega (arith, c.len-fresh.ensures);
+    }
 
-pub replace_head-requires-clause-at_work : goal.replace_head-requires-clause-at_work
-replace_head-requires-clause-at_work g c =
-    let j = c.args.job in
-    let more = phases_in j.later.items in
-    let seen = seen_work j _ c.requires.unmarked c.in-Writing.is in
-    let at = subst (IsAtWork g.D.PageDisk (view_of c.args.running.now)) seen c.requires.at_work in
-    let now = writing_for j.serves c.in-Writing.planned j.old c.in-Writing.written more in
-    let pages = pages_planned (state_of g.D.PageDisk (with_job (view_of c.args.running.now) now)) at.running
-    at.not_stopped j.serves c.in-Writing.planned j.old c.in-Writing.written more refl in
-    let len = c.len-fresh.ensures in
-    let none = c.if-written-fresh.false in
-    let all : length (drop 1 c.in-Writing.planned.chain) ≤ c.in-Writing.written = omega (arith, pages, len, none) in
-    let whole = seen ∙ all_written j.serves c.in-Writing.planned j.old c.in-Writing.written more all in
-    subst (IsAtWork g.D.PageDisk (view_of c.args.running.now)) whole c.requires.at_work
+pub replace_head-requires : goal.replace_head-requires
+replace_head-requires g c =
+    let x = known_work g.D.PageDisk (view_of c.args.running.now) (blobs_of c.args.running.now) c.args.job
+    c.requires.headed c.requires.waits c.requires.kept c.requires.at_work c.requires.unmarked c.in-Writing.is in
+    let all = no_fresh g.D.PageDisk (view_of c.args.running.now) c.args.job.serves c.in-Writing.planned c.args.job.old
+    c.in-Writing.written (phases_in c.args.job.later.items) x.at_work c.len-fresh.result c.len-fresh.ensures
+    c.if-written-fresh.false in
+    record {
+      order = c.requires.order;
+      matched = x.headed.0;
+      follows = x.headed.1;
+      waits = x.waits ∙ ap waits_for_job all;
+      kept = x.kept;
+      at_work = subst (IsAtWork g.D.PageDisk (view_of c.args.running.now)) all x.at_work;
+    }
+
+pub remove_head-requires : goal.remove_head-requires
+remove_head-requires g c =
+    let x = known_work g.D.PageDisk (view_of c.args.running.now) (blobs_of c.args.running.now) c.args.job
+    c.requires.headed c.requires.waits c.requires.kept c.requires.at_work c.requires.unmarked c.in-Removing.is in
+    record {
+      order = c.requires.order;
+      removed = x.headed.0;
+      follows = x.headed.1;
+      waits = x.waits;
+      kept = x.kept;
+      at_work = x.at_work;
+    }
+
+pub overflow_sub-last : goal.overflow_sub-last
+overflow_sub-last g c =
+    let x = known_work g.D.PageDisk (view_of c.args.running.now) (blobs_of c.args.running.now) c.args.job
+    c.requires.headed c.requires.waits c.requires.kept c.requires.at_work c.requires.unmarked c.in-Erasing.is in
+    let some = x.headed.0 in
+    let len = c.len-last.ensures in
+    omega (arith, some, len)
+
+pub erase-requires : goal.erase-requires
+erase-requires g c =
+    let x = known_work g.D.PageDisk (view_of c.args.running.now) (blobs_of c.args.running.now) c.args.job
+    c.requires.headed c.requires.waits c.requires.kept c.requires.at_work c.requires.unmarked c.in-Erasing.is in
+    record {
+      order = c.requires.order;
+      follows = x.headed.1;
+      waits = x.waits;
+      kept = x.kept;
+      at_work = x.at_work;
+      left = omega (arith, c.len-last.ensures);
+    }
+
+pub free-requires : goal.free-requires
+free-requires g c =
+    let x = known_work g.D.PageDisk (view_of c.args.running.now) (blobs_of c.args.running.now) c.args.job
+    c.requires.headed c.requires.waits c.requires.kept c.requires.at_work c.requires.unmarked c.in-Erasing.is in
+    let some = x.headed.0 in
+    let len = c.len-last.ensures in
+    let none = c.if-erased-last.false in
+    record {
+      order = c.requires.order;
+      follows = x.headed.1;
+      waits = x.waits;
+      kept = x.kept;
+      at_work = x.at_work;
+      last = omega (arith, some, len, none);
+    }
 
 pub returns-else-written-fresh-clause-case : goal.returns-else-written-fresh-clause-case
 returns-else-written-fresh-clause-case g c =
-    let j = c.args.job in
-    let more = phases_in j.later.items in
-    let seen = seen_work j _ c.requires.unmarked c.in-Writing.is in
-    let at = subst (IsAtWork g.D.PageDisk (view_of c.args.running.now)) seen c.requires.at_work in
-    let now = writing_for j.serves c.in-Writing.planned j.old c.in-Writing.written more in
-    let pages = pages_planned (state_of g.D.PageDisk (with_job (view_of c.args.running.now) now)) at.running
-    at.not_stopped j.serves c.in-Writing.planned j.old c.in-Writing.written more refl in
-    let len = c.len-fresh.ensures in
-    let none = c.if-written-fresh.false in
-    let all : length (drop 1 c.in-Writing.planned.chain) ≤ c.in-Writing.written = omega (arith, pages, len, none) in
-    let whole = seen ∙ all_written j.serves c.in-Writing.planned j.old c.in-Writing.written more all in
+    let x = known_work g.D.PageDisk (view_of c.args.running.now) (blobs_of c.args.running.now) c.args.job
+    c.requires.headed c.requires.waits c.requires.kept c.requires.at_work c.requires.unmarked c.in-Writing.is in
+    let all = no_fresh g.D.PageDisk (view_of c.args.running.now) c.args.job.serves c.in-Writing.planned c.args.job.old
+    c.in-Writing.written (phases_in c.args.job.later.items) x.at_work c.len-fresh.result c.len-fresh.ensures
+    c.if-written-fresh.false in
     subst (λ k. TurnsJob g.D.PageDisk (with_job (view_of c.args.running.now) k) (view_of c.replace_head.new.running))
-    (sym whole) c.replace_head.ensures.case
+    (sym (seen_work c.args.job _ c.requires.unmarked c.in-Writing.is ∙ all)) c.replace_head.ensures.case
 
 pub returns-then-written-fresh-clause-case : goal.returns-then-written-fresh-clause-case
 returns-then-written-fresh-clause-case g c =
@@ -249,16 +220,3 @@ pub returns-else-erased-last-clause-case : goal.returns-else-erased-last-clause-
 returns-else-erased-last-clause-case g c =
     subst (λ k. TurnsJob g.D.PageDisk (with_job (view_of c.args.running.now) k) (view_of c.free.new.running))
     (sym (seen_work c.args.job _ c.requires.unmarked c.in-Erasing.is)) c.free.ensures.case
-
-pub overflow_sub-last : goal.overflow_sub-last
-overflow_sub-last g c =
-    let some = (known_work IsHeaded c.args.job _ c.requires.unmarked c.in-Erasing.is c.requires.headed).0 in
-    let len = c.len-last.ensures in
-    omega (arith, some, len)
-
-pub free-requires-clause-last : goal.free-requires-clause-last
-free-requires-clause-last g c =
-    let some = (known_work IsHeaded c.args.job _ c.requires.unmarked c.in-Erasing.is c.requires.headed).0 in
-    let len = c.len-last.ensures in
-    let none = c.if-erased-last.false in
-    omega (arith, some, len, none)

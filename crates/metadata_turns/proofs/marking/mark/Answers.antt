@@ -2,22 +2,21 @@ use Rattle.std.proofs.Common.{◌≤◌, ◌+◌, false, Some, sym, ◌∙◌, s
 use Rattle.super_block.specs.declared.page.Super.{Super}
 use Rattle.running_store.specs.Blobs.{blobs_of, WillBeKept}
 use Rattle.running_store.specs.DeviceCalls.{mark_page}
-use Rattle.running_store.specs.Jobs.{freeze_of, job_seen, waits_for_job, IsHeaded}
+use Rattle.running_store.specs.Jobs.{freeze_of, job_seen, IsHeaded}
 use Rattle.running_store.specs.Running.{view_of, AreHeads}
 use Rattle.running_store.specs.StoreView.{base_of}
 use Rattle.running_store.specs.declared.job.RunningJob.{RunningJob}
 use Rattle.metadata_turns.specs.JobTurns.{with_job, TurnsJob}
 use Rattle.running_store.proofs.PlainFacts.{on_err, on_ok}
-use Rattle.metadata_turns.specs.Telling.{HasFailed, HasWaitingRow}
+use Rattle.metadata_turns.specs.Telling.{HasFailed}
 use Rattle.metadata_turns.proofs.JobFailed.{failed_marking, waiting_row}
 use Rattle.metadata_turns.proofs.Marked.{behind_mark, mark_first, marked_store, seen_freeze}
 use Rattle.metadata_turns.proofs.marking.mark.Goals as goal
 
 pub fail_job-requires-clause-row : goal.fail_job-requires-clause-row
 fail_job-requires-clause-row g c =
-    subst (HasWaitingRow c.args.running.now.filling c.args.running.now.rows.items) (sym c.requires.waits)
-    (waiting_row g.D.PageDisk (view_of c.args.running.now) (job_seen c.args.job) c.requires.at_work
-    c.requires.order.seventeen)
+    waiting_row g.D.PageDisk (view_of c.args.running.now) (job_seen c.args.job) c.requires.at_work
+    c.requires.order.seventeen c.requires.waits
 
 pub returns-then-is_err-clause-case : goal.returns-then-is_err-clause-case
 returns-then-is_err-clause-case g c =
@@ -26,16 +25,13 @@ returns-then-is_err-clause-case g c =
     c.mark_in_use.new.disk
     (on_err c.mark_in_use.result _ (sym c.is_err.ensures.value ∙ c.if-is_err.true) c.mark_in_use.ensures.fails)
     (view_of c.fail_job.new.running)
-    (subst (λ o. HasFailed o (waits_for_job (job_seen c.args.job))
+    c.requires.waits (subst (λ o. HasFailed o c.args.waiting
     (view_of (record c.args.running.now { disk = c.mark_in_use.new.disk })) (view_of c.fail_job.new.running)
     (g.D.PageDisk.clock c.fail_job.new.running.disk)) (sym (seen_freeze c.args.job))
-    (subst (λ (s : Super). HasFailed (freeze_of c.args.job.serves) (waits_for_job (job_seen c.args.job))
+    (subst (λ (s : Super). HasFailed (freeze_of c.args.job.serves) c.args.waiting
     (view_of (record c.args.running.now { disk = c.mark_in_use.new.disk; sup = s })) (view_of c.fail_job.new.running)
     (g.D.PageDisk.clock c.fail_job.new.running.disk)) c.mark_in_use.ensures.kept
-    (subst (λ o. HasFailed (freeze_of c.args.job.serves) o
-    (view_of (record c.args.running.now { disk = c.mark_in_use.new.disk; sup = c.mark_in_use.new.sup }))
-    (view_of c.fail_job.new.running) (g.D.PageDisk.clock c.fail_job.new.running.disk)) c.requires.waits
-    c.fail_job.ensures.failed)))
+    c.fail_job.ensures.failed))
     (behind_mark c.args.job).todo (mark_first c.args.job c.requires.marks)
     (mark_page c.args.running.now.sup) c.mark_in_use.ensures.says c.mark_in_use.ensures.any_moment
 

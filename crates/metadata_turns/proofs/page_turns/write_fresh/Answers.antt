@@ -13,7 +13,6 @@ use Rattle.running_store.proofs.PlainFacts.{got, on_err, on_ok}
 use Rattle.running_store.specs.declared.job.RunningJob.{RunningJob}
 use Rattle.running_store.specs.declared.job.Work.TheVariants.{Writing}
 use Rattle.metadata_turns.specs.JobTurns.{with_job, TurnsJob}
-use Rattle.metadata_turns.specs.Telling.{HasFailed, HasWaitingRow}
 use Rattle.metadata_turns.proofs.JobFailed.{failed_putting, waiting_row}
 use Rattle.metadata_turns.proofs.JobTurned.{fresh_low, others, todo_is, touched, wrote_fresh}
 use Rattle.metadata_turns.proofs.page_turns.write_fresh.Goals as goal
@@ -36,10 +35,9 @@ write_one-requires g c =
 
 pub fail_job-requires-clause-row : goal.fail_job-requires-clause-row
 fail_job-requires-clause-row g c =
-    subst (HasWaitingRow c.args.running.now.filling c.args.running.now.rows.items) (sym c.requires.waits)
-    (waiting_row g.D.PageDisk (view_of c.args.running.now) (writing_for c.args.beside.serves c.args.planned
+    waiting_row g.D.PageDisk (view_of c.args.running.now) (writing_for c.args.beside.serves c.args.planned
     c.args.beside.old c.args.written (phases_in c.args.beside.later.items)) c.requires.at_work
-    c.requires.order.seventeen)
+    c.requires.order.seventeen c.requires.waits
 
 pub returns-then-is_err-clause-case : goal.returns-then-is_err-clause-case
 returns-then-is_err-clause-case g c =
@@ -60,9 +58,7 @@ returns-then-is_err-clause-case g c =
     failed_putting d p now c.requires.at_work c.requires.order.seventeen disk
     (on_err c.write_one.result _ (sym c.is_err.ensures.value ∙ c.if-is_err.true) c.write_one.ensures.fails)
     (view_of c.fail_job.new.running)
-    (subst (λ o. HasFailed now.freeze o (view_of (record c.args.running.now { disk = disk }))
-    (view_of c.fail_job.new.running)
-    (d.clock c.fail_job.new.running.disk)) c.requires.waits c.fail_job.ensures.failed)
+    c.requires.waits c.fail_job.ensures.failed
     (Writes x.place)
     (others d p c.args.beside.serves c.args.planned c.args.beside.old c.args.written more c.requires.at_work disk x
     c.page_at-page.result at_is is touches)

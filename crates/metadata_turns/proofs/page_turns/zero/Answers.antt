@@ -4,11 +4,10 @@ use Rattle.page_disk.specs.Moments.{CallsLeaveOnly}
 use Rattle.page_disk.specs.declared.disk.WriteKind.TheVariants.{Plain}
 use Rattle.store_model.specs.Cases.{WritesOnePage}
 use Rattle.running_store.specs.Blobs.{blobs_of, CanAllBeKept}
-use Rattle.running_store.specs.Jobs.{freeze_of, phases_in, zeroing_for}
+use Rattle.running_store.specs.Jobs.{phases_in, zeroing_for}
 use Rattle.running_store.specs.Running.{view_of}
 use Rattle.running_store.specs.StoreView.{device_of}
 use Rattle.running_store.proofs.PlainFacts.{on_err, on_ok, zeros}
-use Rattle.metadata_turns.specs.Telling.{HasFailed, HasWaitingRow}
 use Rattle.metadata_turns.proofs.JobFailed.{waiting_row}
 use Rattle.metadata_turns.proofs.ZeroTurned.{failed_zeroing, page_low, zeroed_one}
 use Rattle.metadata_turns.proofs.page_turns.zero.Goals as goal
@@ -23,10 +22,9 @@ write_one-requires g c =
 
 pub fail_job-requires-clause-row : goal.fail_job-requires-clause-row
 fail_job-requires-clause-row g c =
-    subst (HasWaitingRow c.args.running.now.filling c.args.running.now.rows.items) (sym c.requires.waits)
-    (waiting_row g.D.PageDisk (view_of c.args.running.now) (zeroing_for c.args.beside.serves c.args.planned
+    waiting_row g.D.PageDisk (view_of c.args.running.now) (zeroing_for c.args.beside.serves c.args.planned
     c.args.beside.old c.args.zeroed (phases_in c.args.beside.later.items)) c.requires.at_work
-    c.requires.order.seventeen)
+    c.requires.order.seventeen c.requires.waits
 
 pub returns-then-is_err-clause-case : goal.returns-then-is_err-clause-case
 returns-then-is_err-clause-case g c =
@@ -39,9 +37,7 @@ returns-then-is_err-clause-case g c =
     c.write_one.ensures.any_moment)
     (on_err c.write_one.result _ (sym c.is_err.ensures.value ∙ c.if-is_err.true) c.write_one.ensures.fails)
     (view_of c.fail_job.new.running)
-    (subst (λ o. HasFailed (freeze_of c.args.beside.serves) o
-    (view_of (record c.args.running.now { disk = c.write_one.new.disk })) (view_of c.fail_job.new.running)
-    (g.D.PageDisk.clock c.fail_job.new.running.disk)) c.requires.waits c.fail_job.ensures.failed)
+    c.requires.waits c.fail_job.ensures.failed
 
 pub returns-clause-case : goal.returns-clause-case
 returns-clause-case g c =

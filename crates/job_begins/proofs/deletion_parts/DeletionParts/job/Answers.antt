@@ -1,14 +1,9 @@
-use Rattle.std.proofs.Common.{IfErr, Result, ◌≡◌, ◌∙◌, ℕ, All, Bool, true, false, List, sym, ap, subst}
-use Rattle.std.proofs.lemmas.Result.{err_from_is_err_and}
-use Rattle.bit_array.specs.Bits.{is_in}
-use Rattle.volume_model.specs.declared.reply.Reply.{Reply}
-use Rattle.store_model.specs.Places.{all_set}
+use Rattle.std.proofs.Common.{◌∙◌, ℕ, List, sym, subst}
 use Rattle.store_model.proofs.Sets.{are_distinct}
 use Rattle.job_begins.specs.Deletions.{deletion_needs, IsDeletionLaid}
-use Rattle.running_store.specs.declared.job.RunningJob.{RunningJob}
 use Rattle.job_begins.specs.JobPages.{ArePagesTaken, IsShort}
-use Rattle.job_begins.proofs.JobBegin.{same_pool}
-use Rattle.job_begins.proofs.JobPlaces.{clear_again, taken_in_use}
+use Rattle.job_begins.proofs.JobPlaces.{pool_again, taken_in_use}
+use Rattle.job_begins.proofs.PassedOn.{passed_on}
 use Rattle.job_begins.proofs.deletion_parts.DeletionParts.job.Goals as goal
 
 pub clear_places-requires-clause-distinct : goal.clear_places-requires-clause-distinct
@@ -17,17 +12,13 @@ clear_places-requires-clause-distinct c =
 
 pub clear_places-requires-clause-in_use : goal.clear_places-requires-clause-in_use
 clear_places-requires-clause-in_use c =
-    subst (λ (bits : List Bool). All (λ x. is_in bits x ≡ true) c.in_ok-taken.taken)
-    (sym c.in_ok-taken.ensures.taken.set)
-    (taken_in_use c.args.pages.now.bits c.in_ok-taken.taken c.in_ok-taken.ensures.taken.least)
+    taken_in_use c.args.pages.now.bits c.in_ok-taken.taken c.in_ok-taken.ensures.taken.least _
+    c.in_ok-taken.ensures.taken.set
 
 pub returns-clause-same : goal.returns-clause-same
 returns-clause-same c =
-    let taken = c.in_ok-taken.taken in
-    same_pool c.clear_places.new.pool c.args.pages.now
-    (c.clear_places.ensures.bits
-    ∙ ap (λ (bits : List Bool). all_set bits taken false) c.in_ok-taken.ensures.taken.set
-    ∙ clear_again c.args.pages.now.bits taken c.in_ok-taken.ensures.taken.least)
+    pool_again c.args.pages.now c.clear_places.new.pool c.in_ok-taken.taken c.in_ok-taken.ensures.taken.least _
+    c.in_ok-taken.ensures.taken.set c.clear_places.ensures.bits
     (c.clear_places.ensures.unclaimed ∙ sym c.requires.unclaimed)
 
 pub returns-in-Ok-clause-job : goal.returns-in-Ok-clause-job
@@ -43,7 +34,5 @@ returns-in-Ok-clause-job c =
 pub returns-in_err-taken-clause-lack : goal.returns-in_err-taken-clause-lack
 returns-in_err-taken-clause-lack c =
     let needs = deletion_needs c.args.self.drafts in
-    let e = err_from_is_err_and c.from_residual.result c.from_residual.ensures.1 in
-    subst (λ (r : Result RunningJob Reply). IfErr r (IsShort needs c.args.pages.now.bits)) (sym e.1)
-    (subst (IsShort needs c.args.pages.now.bits) (sym e.2)
-    (subst (λ n. IsShort n c.args.pages.now.bits c.in_err-taken.field-0.0) c.needs.ensures c.in_err-taken.ensures.lack))
+    passed_on c.from_residual.result c.from_residual.ensures.1 (IsShort needs c.args.pages.now.bits)
+    (subst (λ n. IsShort n c.args.pages.now.bits c.in_err-taken.field-0.0) c.needs.ensures c.in_err-taken.ensures.lack)
