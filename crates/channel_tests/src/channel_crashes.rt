@@ -1,28 +1,63 @@
 //! Random scripts on many channels, and power that fails at each call of the device.
 
 use crate::channel_plays::ChannelPlay;
-use page_disk::{FaultDisk, PageDisk};
+use crate::replays::Replay;
+use page_disk::{FaultDisk, MemDisk, PageDisk};
 use random_plays::{Ran, Status, expect_left, new_stores, number_at};
 use std::alloc::Global;
 use std::test::Fail;
 
+/// What a run leaves that stops, or that ends well: what it printed, the log replayed, and the device.
+#[derive(Drop)]
+struct Left {
+    is_good: bool,
+    printed: Vec<u8>,
+    replay: Replay,
+    disk: MemDisk,
+}
+
+/// What the run of a play leaves after so many calls of the device.
+fn left_after(alloc: Global, play: &ChannelPlay, calls: u64) -> Result<Left, Fail> {
+    let ran = play.run(alloc, FaultDisk::stopping(play.store()?, calls))?;
+    let replay = play.replayed(alloc, &ran, true)?;
+    let Ran { status, out, disk } = ran;
+    Ok(Left {
+        is_good: matches!(status, Status::Good),
+        printed: Vec::from_slice(alloc, out.bytes())?,
+        replay,
+        disk: disk.into_inner(),
+    })
+}
+
+/// Whether nothing else is left than before.
+fn is_same(left: &Left, before: &Option<Left>) -> bool {
+    match before {
+        Some(before) => {
+            left.disk.clock() == before.disk.clock()
+                && left.printed.as_slice() == before.printed.as_slice()
+        }
+        None => false,
+    }
+}
+
 /// Expects that whenever power fails in a run of a play, each command that was answered is done. Where a call leaves
 /// nothing else than the one before it, the crashes are the same.
 fn expect_stops(alloc: Global, play: &ChannelPlay) -> Result<(), Fail> {
-    let mut before = (0, Vec::new(alloc));
+    let mut before = None;
     for calls in 0..2000 {
-        let ran = play.run(alloc, FaultDisk::stopping(play.store.crash(0)?, calls))?;
-        let replay = play.replayed(alloc, &ran, true)?;
-        let Ran { status, out, disk } = ran;
-        if matches!(status, Status::Good) {
+        let left = left_after(alloc, play, calls)?;
+        if left.is_good {
             return Ok(());
         }
-        let disk = disk.into_inner();
-        let is_same = disk.clock() == before.0 && out.bytes() == before.1.as_slice();
-        if calls == 0 || !is_same {
-            expect_left(alloc, &replay.states_left(alloc)?, play.fixed(), &disk)?;
+        if !is_same(&left, &before) {
+            expect_left(
+                alloc,
+                &left.replay.states_left(alloc)?,
+                play.fixed(),
+                &left.disk,
+            )?;
         }
-        before = (disk.clock(), Vec::from_slice(alloc, out.bytes())?);
+        before = Some(left);
     }
     Err(Fail::new("the script makes more calls"))
 }

@@ -2,7 +2,7 @@
 
 use crate::channel_scripts::{ChannelScript, Size, drawn_making, drawn_script, small};
 use crate::replays::Replay;
-use crate::schedules::drawn_schedule;
+use crate::schedules::push_schedule;
 use page_disk::{MemDisk, PageDisk};
 use random_plays::{
     Call, Ran, Status, number_at, number_in_family, perform, run, size_of, store_for,
@@ -11,35 +11,54 @@ use random_worlds::{Draws, World};
 use std::alloc::Global;
 use std::test::Fail;
 
-/// A store, the script that made its volumes and what that printed, a script that is to run on it, by a schedule if
-/// there is one, and whether the run ends with a `df`.
+/// A store, the script that made its volumes, and what that printed.
+#[derive(Drop)]
+struct Making {
+    store: MemDisk,
+    script: ChannelScript,
+    printed: Vec<u8>,
+}
+
+/// A script, the words of the call that runs it, by a schedule or by none, and whether the run ends with a `df`.
+#[derive(Drop)]
+struct Drawn {
+    script: ChannelScript,
+    line: String,
+    ends_with_df: bool,
+}
+
+/// A store with its volumes, and a script that is to run on it.
 #[derive(Drop)]
 pub struct ChannelPlay {
     number: u64,
-    pub store: MemDisk,
-    making: ChannelScript,
-    made: Vec<u8>,
-    pub script: ChannelScript,
-    pub schedule: Option<String>,
-    pub ends_with_df: bool,
+    making: Making,
+    drawn: Drawn,
 }
 
-/// A schedule, if there is one, whether the run ends with a `df`, and the script.
-type DrawnRun = (Option<String>, bool, ChannelScript);
+/// A run of this size but for the channels, which are drawn, by no schedule; a channel alone ends with its `df`.
+fn without_schedule(alloc: Global, draws: &mut Draws, size: Size) -> Result<Drawn, Fail> {
+    let channels = draws.below(16).wrapping_add(1);
+    let size = Size { channels, ..size };
+    Ok(Drawn {
+        script: drawn_script(alloc, draws, &size, 0)?,
+        line: String::from_str(alloc, "run store.img")?,
+        ends_with_df: channels == 1,
+    })
+}
 
-/// A run of this size but for the channels, which are drawn. Where a schedule is drawn the other channels end before
-/// the one with the `df` has its first step; and a channel alone ends with it too.
-fn drawn_run(alloc: Global, draws: &mut Draws, size: Size) -> Result<DrawnRun, Fail> {
-    let mut size = size;
-    if draws.is_zero(3) {
-        size.channels = draws.below(16).wrapping_add(1);
-        let script = drawn_script(alloc, draws, &size, 0)?;
-        return Ok((None, size.channels == 1, script));
-    }
-    size.channels = draws.below(15).wrapping_add(1);
+/// Such a run by a schedule that is drawn, where the other channels end before the one with the `df` has its first
+/// step.
+fn by_schedule(alloc: Global, draws: &mut Draws, size: Size) -> Result<Drawn, Fail> {
+    let channels = draws.below(15).wrapping_add(1);
+    let size = Size { channels, ..size };
     let script = drawn_script(alloc, draws, &size, 15)?;
-    let schedule = drawn_schedule(alloc, draws, size.channels)?;
-    Ok((Some(schedule), true, script))
+    let mut line = String::from_str(alloc, "run store.img --schedule ")?;
+    push_schedule(alloc, draws, channels, &mut line)?;
+    Ok(Drawn {
+        script,
+        line,
+        ends_with_df: true,
+    })
 }
 
 /// How many lines are drawn for the play of a number, with or without a family: few where it is stopped.
@@ -53,21 +72,31 @@ fn drawn_length(draws: &mut Draws, number: u64, family: Option<u64>) -> u64 {
     }
 }
 
-/// The store behind a script that makes volumes, and what that printed.
+/// The store behind a script that makes so many volumes.
 fn made_store(
     alloc: Global,
-    making: &ChannelScript,
+    draws: &mut Draws,
+    creates: u64,
     store: MemDisk,
-) -> Result<(MemDisk, Vec<u8>), Fail> {
-    if making.text.is_empty() {
-        return Ok((store, Vec::new(alloc)));
+) -> Result<Making, Fail> {
+    let script = drawn_making(alloc, draws, creates)?;
+    if script.text.is_empty() {
+        return Ok(Making {
+            store,
+            script,
+            printed: Vec::new(alloc),
+        });
     }
     let Ran {
         status: _,
         out,
         disk,
-    } = run(alloc, &making.text, store)?;
-    Ok((disk.crash(0)?, Vec::from_slice(alloc, out.bytes())?))
+    } = run(alloc, &script.text, store)?;
+    Ok(Making {
+        store: disk.crash(0)?,
+        script,
+        printed: Vec::from_slice(alloc, out.bytes())?,
+    })
 }
 
 impl ChannelPlay {
@@ -91,25 +120,38 @@ impl ChannelPlay {
     ) -> Result<ChannelPlay, Fail> {
         let mut draws = Draws::new(number);
         let creates = draws.below(3).wrapping_add(1);
-        let are_made = draws.is_zero(2);
-        let making = drawn_making(alloc, &mut draws, if are_made { creates } else { 0 })?;
-        let (store, made) = made_store(alloc, &making, store_for(number, stores)?)?;
+        let (made, left) = if draws.is_zero(2) {
+            (creates, 0)
+        } else {
+            (0, creates)
+        };
+        let making = made_store(alloc, &mut draws, made, store_for(number, stores)?)?;
         let size = Size {
             channels: 1,
-            creates: if are_made { 0 } else { creates },
+            creates: left,
             lines: drawn_length(&mut draws, number, family),
             family,
         };
-        let (schedule, ends_with_df, script) = drawn_run(alloc, &mut draws, size)?;
+        let drawn = if draws.is_zero(3) {
+            without_schedule(alloc, &mut draws, size)?
+        } else {
+            by_schedule(alloc, &mut draws, size)?
+        };
         Ok(ChannelPlay {
             number,
-            store,
             making,
-            made,
-            script,
-            schedule,
-            ends_with_df,
+            drawn,
         })
+    }
+
+    /// A copy of the store.
+    pub fn store(&self) -> Result<MemDisk, Fail> {
+        Ok(self.making.store.crash(0)?)
+    }
+
+    /// Whether the run ends with a `df`.
+    pub fn ends_with_df(&self) -> bool {
+        self.drawn.ends_with_df
     }
 
     /// How many clusters the store takes itself.
@@ -117,33 +159,24 @@ impl ChannelPlay {
         size_of(self.number).1
     }
 
-    /// The words of the call.
-    fn line(&self, alloc: Global) -> Result<String, Fail> {
-        Ok(match &self.schedule {
-            Some(schedule) => format!(in alloc; "run store.img --schedule {schedule}")?,
-            None => format!(in alloc; "run store.img")?,
-        })
-    }
-
     /// What comes of the script on a device.
     pub fn run<D: PageDisk + Drop + Send>(&self, alloc: Global, disk: D) -> Result<Ran<D>, Fail> {
-        let line = self.line(alloc)?;
-        let call = Call {
-            line: line.as_str(),
-            script: &self.script.text,
-            failing_reads: &[],
-            failing_writes: &[],
-        };
-        perform(alloc, &call, disk)
+        let Drawn { script, line, .. } = &self.drawn;
+        perform(alloc, &Call::new(line.as_str(), &script.text), disk)
     }
 
     /// The volumes that were made, before the script.
     fn opened(&self, alloc: Global) -> Result<World, Fail> {
         let (md_pages, fixed) = size_of(self.number);
-        let mut making = Replay::new(World::new(alloc, md_pages, fixed)?);
-        making.replay(alloc, &self.making, &self.made, false)?;
-        making.expect_whole(&self.making)?;
-        Ok(making.into_world())
+        let Making {
+            script,
+            printed,
+            ..
+        } = &self.making;
+        let mut replay = Replay::new(World::new(alloc, md_pages, fixed)?);
+        replay.replay(alloc, script, printed, false)?;
+        replay.expect_whole(script)?;
+        Ok(replay.into_world())
     }
 
     /// The log of a run of the script, replayed. Fails where a line tells what plain volumes don't, or a command isn't
@@ -154,30 +187,25 @@ impl ChannelPlay {
         ran: &Ran<D>,
         may_fail: bool,
     ) -> Result<Replay, Fail> {
+        let Ran { status, out, .. } = ran;
         let mut replay = Replay::new(self.opened(alloc)?);
-        replay.replay(alloc, &self.script, ran.out.bytes(), may_fail)?;
-        match ran.status {
-            Status::Good => replay.expect_whole(&self.script)?,
-            Status::Device { at } if may_fail && at == replay.answered() => {
-                if !ran.out.bytes().is_empty() {
-                    replay.expect_whole(&self.script)?;
-                }
-            }
-            _ => {
-                return Err(Fail::new(format_args!("the run ended with {:?}", ran.status)));
-            }
+        replay.replay(alloc, &self.drawn.script, out.bytes(), may_fail)?;
+        let is_whole = match *status {
+            Status::Good => true,
+            Status::Device { at } if may_fail && at == replay.answered() => !out.bytes().is_empty(),
+            _ => return Err(Fail::new(format_args!("the run ended with {status:?}"))),
+        };
+        if is_whole {
+            replay.expect_whole(&self.drawn.script)?;
         }
         Ok(replay)
     }
 
     /// Prints what a reader needs to see why a play failed: the scripts and the words of the call.
     pub fn tell(&self, rt: HostRuntime) {
-        let making = str::from_utf8(&self.making.text).unwrap_or("");
-        let script = str::from_utf8(&self.script.text).unwrap_or("");
-        let schedule = match &self.schedule {
-            Some(schedule) => schedule.as_str(),
-            None => "",
-        };
-        let _printed = println!(rt; "{}:\n{making}---\n{script}---\n{schedule}", self.number);
+        let making = str::from_utf8(&self.making.script.text).unwrap_or("");
+        let script = str::from_utf8(&self.drawn.script.text).unwrap_or("");
+        let line = self.drawn.line.as_str();
+        let _printed = println!(rt; "{}:\n{making}---\n{script}---\n{line}", self.number);
     }
 }

@@ -9,13 +9,13 @@ use std::test::Fail;
 
 /// Expects each answer of a play, and that its volumes are left and no claim: as much is clear as a last `df` told.
 fn expect_run(alloc: Global, play: &ChannelPlay) -> Result<(), Fail> {
-    let ran = play.run(alloc, play.store.crash(0)?)?;
+    let ran = play.run(alloc, play.store()?)?;
     let mut replay = play.replayed(alloc, &ran, false)?;
     replay.world.expect_pages(alloc)?;
     let shown = expect_volumes(alloc, &replay.world.state, play.fixed(), ran.disk.crash(1)?)?;
     match &replay.last_space {
         Some(space) => shown.expect_free(space),
-        None if play.ends_with_df => Err(Fail::new("a df isn't last")),
+        None if play.ends_with_df() => Err(Fail::new("a df isn't last")),
         None => Ok(()),
     }
 }

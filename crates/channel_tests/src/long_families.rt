@@ -17,12 +17,7 @@ const MD_PAGES: u32 = 96;
 /// A device of 256 clusters with an empty store.
 fn empty_store(alloc: Global) -> Result<MemDisk, Fail> {
     let line = format!(in alloc; "format store.img --cluster 16384 --md-pages {MD_PAGES}")?;
-    let call = Call {
-        line: line.as_str(),
-        script: b"",
-        failing_reads: &[],
-        failing_writes: &[],
-    };
+    let call = Call::new(line.as_str(), b"");
     let ran = perform(alloc, &call, MemDisk::new(alloc, 1024, 4096)?)?;
     Ok(ran.disk.crash(0)?)
 }
@@ -105,16 +100,25 @@ fn looking(alloc: Global, letter: &str) -> Result<Vec<u8>, Fail> {
     Ok(script)
 }
 
+/// Runs a script and looks at each page then, and expects what plain volumes answer.
+fn expect_all_same(
+    alloc: Global,
+    volumes: &mut Volumes,
+    script: &[u8],
+    disk: MemDisk,
+) -> Result<MemDisk, Fail> {
+    let mut disk = expect_same(alloc, volumes, script, disk)?;
+    for letter in ["s", "c"] {
+        disk = expect_same(alloc, volumes, &looking(alloc, letter)?, disk)?;
+    }
+    Ok(disk)
+}
+
 #[test]
 fn each_page_of_a_long_family_is_that_of_plain_volumes(rt: HostRuntime) -> Result<(), Fail> {
     let alloc = rt.alloc();
     let mut volumes = Volumes::new(alloc, 4, MD_PAGES, None);
-    let mut disk = empty_store(alloc)?;
-    for script in [making(alloc)?, deleting(alloc)?] {
-        disk = expect_same(alloc, &mut volumes, &script, disk)?;
-        for letter in ["s", "c"] {
-            disk = expect_same(alloc, &mut volumes, &looking(alloc, letter)?, disk)?;
-        }
-    }
+    let disk = expect_all_same(alloc, &mut volumes, &making(alloc)?, empty_store(alloc)?)?;
+    expect_all_same(alloc, &mut volumes, &deleting(alloc)?, disk)?;
     Ok(())
 }

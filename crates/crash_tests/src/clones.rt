@@ -8,7 +8,7 @@ use test_runs::play;
 use test_stores::image;
 
 /// The script, and a look at what it leaves.
-const CLONES: Cut = Cut {
+static CLONES: Cut = Cut {
     script: b"0 clone a b\n0 put b k t:x\n0 clone a c\n",
     look: b"0 getx b name\n0 getx b k\n0 read b 0 1\n0 getx c name\n0 df\n",
     points: POINTS,

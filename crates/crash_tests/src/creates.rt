@@ -5,7 +5,7 @@ use std::test::Fail;
 use test_stores::image;
 
 /// The script, and a look at what it leaves.
-const CREATES: Cut = Cut {
+static CREATES: Cut = Cut {
     script: b"0 create a 1 thin\n0 put @0 k t:x\n0 create b 2 thin\n",
     look: b"0 getx @0 name\n0 getx @0 k\n0 getx @1 name\n0 df\n",
     points: POINTS,

@@ -56,7 +56,7 @@ const CHAINS: &[(u32, &[u32])] = &[(0, &[0]), (1, &[1]), (2, &[2])];
 /// Loading reads the super block, three masks, and three chains of one page. A slot makes four reads and four
 /// writes of copies, a flush, and for the head a flush, a write and a flush; so does the end for the head. The insert
 /// of the first slot begins, behind its copies, with the mark of a store in use, three calls; the unload makes six.
-const INFLATE: Cut = Cut {
+static INFLATE: Cut = Cut {
     script: b"0 inflate v\n",
     look: LOOK,
     points: &[
@@ -92,7 +92,7 @@ const INFLATE: Cut = Cut {
 };
 
 /// A decouple fills the slot that the direct parent's own map holds.
-const DECOUPLE: Cut = Cut {
+static DECOUPLE: Cut = Cut {
     script: b"0 decouple v\n",
     look: LOOK,
     points: &[
@@ -134,7 +134,7 @@ fn each_crash_leaves_a_decouple_done_or_not(rt: HostRuntime) -> Result<(), Fail>
 }
 
 /// The volume has four empty slots and a chain of three pages.
-const LONG: Cut = Cut {
+static LONG: Cut = Cut {
     script: b"0 inflate v\n",
     look: b"0 info v\n0 read v 0 2\n0 read v 12 1\n0 read v 16 1\n0 df\n",
     points: LONG_POINTS,

@@ -8,7 +8,7 @@ use test_runs::{Call, Ran, expect_printed, perform, play};
 
 /// A volume of 500 slots is made where no two clear clusters are neighbours: its map has a run of 8 bytes for each
 /// slot, beside a flags item, a name and a UUID, and a metadata page takes 4072 bytes.
-const LONG_MAP: Cut = Cut {
+static LONG_MAP: Cut = Cut {
     script: b"0 create v 500 thick\n",
     look: b"0 read a 0 1\n0 read a 509 1\n0 read v 0 1\n0 read v 499 1\n0 df\n",
     points: POINTS,
@@ -39,12 +39,7 @@ const POINTS: &[Point] = &[
 /// An empty store with clusters of one page: with eight metadata pages clusters 0 to 11 are fixed. It has room for the
 /// calls of the device that fill 1020 slots, fewer than ten each.
 fn empty_store(alloc: Global) -> Result<MemDisk, Fail> {
-    let call = Call {
-        line: "format store.img --cluster 4096 --md-pages 8",
-        script: b"",
-        failing_reads: &[],
-        failing_writes: &[],
-    };
+    let call = Call::new("format store.img --cluster 4096 --md-pages 8", b"");
     let Ran {
         status: _,
         out,
@@ -58,29 +53,33 @@ fn empty_store(alloc: Global) -> Result<MemDisk, Fail> {
 const KEPT: u64 = 510;
 
 /// A script that fills the slots 0, 510, 1, 511 and so on, each with the next cluster and its page p with the word
-/// p + 1, and then cuts those from 510 on; and what is printed of it.
-fn halving(alloc: Global) -> Result<(Vec<u8>, Vec<u8>), Fail> {
-    let (mut script, mut printed) = (Vec::new(alloc), Vec::new(alloc));
-    script.extend_from_slice(b"0 create a 1020 thin\n")?;
-    printed.extend_from_slice(b"0 0 ok @0\n")?;
+/// p + 1, and then cuts those from 510 on.
+fn halving(alloc: Global) -> Result<Vec<u8>, Fail> {
+    let mut script = Vec::from_slice(alloc, b"0 create a 1020 thin\n")?;
     for page in 0..KEPT {
         let (word, cut, cut_word) = (page + 1, page + KEPT, page + KEPT + 1);
         let writes = format!(in alloc;
             "0 write a {page} 1 {word}\n0 write a {cut} 1 {cut_word}\n"
         )?;
         script.extend_from_slice(writes.as_bytes())?;
-        let answers = format!(in alloc; "0 {} ok\n0 {} ok\n", 2 * page + 1, 2 * page + 2)?;
-        printed.extend_from_slice(answers.as_bytes())?;
     }
     script.extend_from_slice(b"0 resize a 510\n")?;
-    printed.extend_from_slice(b"0 1021 ok\n")?;
-    Ok((script, printed))
+    Ok(script)
+}
+
+/// What is printed of it: the commands 1 to 1021 are answered alike.
+fn halved(alloc: Global) -> Result<Vec<u8>, Fail> {
+    let mut printed = Vec::from_slice(alloc, b"0 0 ok @0\n")?;
+    for index in 1..2 * KEPT + 2 {
+        printed.extend_from_slice(format!(in alloc; "0 {index} ok\n")?.as_bytes())?;
+    }
+    Ok(printed)
 }
 
 /// A store in which `a` has every second cluster, and the others are clear and have other bytes than zeros.
 fn half_full(alloc: Global) -> Result<MemDisk, Fail> {
-    let (script, printed) = halving(alloc)?;
-    let disk = play(alloc, &script, &printed, empty_store(alloc)?)?;
+    let disk = empty_store(alloc)?;
+    let disk = play(alloc, &halving(alloc)?, &halved(alloc)?, disk)?;
     Ok(disk.crash(0)?)
 }
 
@@ -88,21 +87,28 @@ fn half_full(alloc: Global) -> Result<MemDisk, Fail> {
 fn expect_words(alloc: Global, look: &[u8], words: &[u64], disk: MemDisk) -> Result<MemDisk, Fail> {
     let mut lines = Vec::new(alloc);
     for (index, word) in words.iter().enumerate() {
-        let line = format!(in alloc; "0 {index} page fill {word:016x}\n")?;
-        lines.extend_from_slice(line.as_bytes())?;
+        lines.extend_from_slice(format!(in alloc;
+            "0 {index} page fill {word:016x}\n"
+        )?.as_bytes())?;
     }
     play(alloc, look, &lines, disk)
 }
 
-/// Expects that all pages of `v` are zeros, and those of `a` as they were.
-fn expect_made(alloc: Global, disk: MemDisk) -> Result<(), Fail> {
-    let made = [0; 500];
-    let disk = expect_words(alloc, b"0 read v 0 256\n0 read v 256 244\n", &made, disk)?;
+/// The words of the pages that `a` keeps.
+fn kept(alloc: Global) -> Result<Vec<u64>, Fail> {
     let mut kept = Vec::new(alloc);
     for page in 0..KEPT {
         kept.push(page + 1)?;
     }
-    let _ = expect_words(alloc, b"0 read a 0 256\n0 read a 256 254\n", &kept, disk)?;
+    Ok(kept)
+}
+
+/// Expects that all pages of `v` are zeros, and those of `a` as they were.
+fn expect_made(alloc: Global, disk: MemDisk) -> Result<(), Fail> {
+    let kept = kept(alloc)?;
+    let look = b"0 read v 0 256\n0 read v 256 244\n";
+    let disk = expect_words(alloc, look, &[0; 500], disk)?;
+    expect_words(alloc, b"0 read a 0 256\n0 read a 256 254\n", &kept, disk)?;
     Ok(())
 }
 
@@ -112,7 +118,7 @@ fn each_crash_leaves_the_long_map_whole_or_not_at_all(rt: HostRuntime) -> Result
     let alloc = rt.alloc();
     let disk = half_full(alloc)?;
     for calls in 0..LONG_MAP.calls.saturating_add(1) {
-        expect_cut_after(alloc, &LONG_MAP, calls, &disk)?;
+        expect_cut_after(alloc, &LONG_MAP, calls, 4, &disk)?;
     }
     let made = play(alloc, LONG_MAP.script, b"0 0 ok @2\n", disk)?;
     expect_made(alloc, made.crash(0)?)

@@ -8,7 +8,6 @@ use test_stores::{ChainRow, expect_chains};
 
 /// What stands once some of the commands are done: how many calls of the device were made until the head of the last
 /// one was flushed, what is printed of the script, what is printed of the look, and the chains.
-#[derive(Clone, Copy)]
 pub struct Point {
     pub calls: u64,
     pub printed: &'static [u8],
@@ -21,7 +20,6 @@ pub struct Point {
 /// The first job of a run begins with the mark of a store in use, three calls: a flush, the super block's write and a
 /// flush. The run ends with the unload of the store, six calls: the pages of its three masks, a flush, the super
 /// block's write, and a flush.
-#[derive(Clone, Copy)]
 pub struct Cut {
     pub script: &'static [u8],
     pub look: &'static [u8],
@@ -30,11 +28,11 @@ pub struct Cut {
 }
 
 /// The last of the points that are reached with so many calls.
-fn point_at(points: &[Point], calls: u64) -> Result<Point, Fail> {
+fn point_at(points: &'static [Point], calls: u64) -> Result<&'static Point, Fail> {
     let mut last = None;
     for point in points {
         if point.calls <= calls {
-            last = Some(*point);
+            last = Some(point);
         }
     }
     Ok(last.ok_or("no point is reached")?)
@@ -45,24 +43,41 @@ fn count_of_ok(printed: &[u8]) -> usize {
     printed.iter().filter(|b| **b == b'k').count()
 }
 
+/// Whether a printed text begins so, and answers as many commands with `ok`.
+fn is_answered(text: &[u8], printed: &[u8]) -> bool {
+    text.starts_with(printed) && count_of_ok(text) == count_of_ok(printed)
+}
+
 /// The disk after so many calls of the device, with as many commands done as are answered so. The run ends well with
 /// all its calls alone.
 fn stopped(alloc: Global, cut: &Cut, calls: u64, disk: MemDisk) -> Result<MemDisk, Fail> {
+    let printed = point_at(cut.points, calls)?.printed;
     let Ran { status, out, disk } = run(alloc, cut.script, FaultDisk::stopping(disk, calls))?;
     if matches!(status, Status::Good) != (calls >= cut.calls) {
         return Err(Fail::new(format_args!("{calls} calls ended with {status:?}")));
     }
-    let printed = point_at(cut.points, calls)?.printed;
-    if !out.bytes().starts_with(printed) || count_of_ok(out.bytes()) != count_of_ok(printed) {
+    if !is_answered(out.bytes(), printed) {
         return Err(Fail::new(format_args!("others are answered in {calls} calls")));
     }
     Ok(disk.into_inner())
 }
 
-/// Expects that what each of so many crashes leaves after so many calls is loaded, and is as at a point. A command
-/// whose head is written and not flushed may be done or not: it is where a crash leaves the last write, as pick 1 says,
-/// and each fourth one behind it.
-fn expect_point(
+/// Expects that what a crash leaves is loaded, and is as at the point that is reached with so many calls.
+fn expect_point(alloc: Global, cut: &Cut, reached: u64, disk: MemDisk) -> Result<(), Fail> {
+    let point = point_at(cut.points, reached)?;
+    let disk = play(alloc, cut.look, point.found, disk)?;
+    expect_chains(alloc, disk, point.chains)
+}
+
+/// With how many calls the point is reached that a crash by this pick leaves after so many calls. A command whose head
+/// is written and not flushed may be done or not: it is where a crash leaves the last write, as pick 1 says, and each
+/// fourth one behind it.
+fn reached(calls: u64, pick: u64) -> u64 {
+    calls.saturating_add(u64::from(pick % 4 == 1))
+}
+
+/// Expects it of so many crashes after so many calls.
+fn expect_points(
     alloc: Global,
     cut: &Cut,
     calls: u64,
@@ -70,35 +85,33 @@ fn expect_point(
     disk: &MemDisk,
 ) -> Result<(), Fail> {
     for pick in 0..picks {
-        let reached = if pick % 4 == 1 {
-            calls.saturating_add(1)
-        } else {
-            calls
-        };
-        let point = point_at(cut.points, reached)?;
-        let disk = play(alloc, cut.look, point.found, disk.crash(pick)?)?;
-        expect_chains(alloc, disk, point.chains)?;
+        expect_point(alloc, cut, reached(calls, pick), disk.crash(pick)?)?;
     }
     Ok(())
 }
 
 /// Expects that where power fails after so many calls in a run of the script on a flushed device, the commands before
-/// are done, and the one that is cut off is done or not.
-pub fn expect_cut_after(alloc: Global, cut: &Cut, calls: u64, disk: &MemDisk) -> Result<(), Fail> {
+/// are done, and the one that is cut off is done or not, by so many crashes.
+pub fn expect_cut_after(
+    alloc: Global,
+    cut: &Cut,
+    calls: u64,
+    picks: u64,
+    disk: &MemDisk,
+) -> Result<(), Fail> {
     let disk = stopped(alloc, cut, calls, disk.crash(0)?)?;
-    expect_point(alloc, cut, calls, 4, &disk)
+    expect_points(alloc, cut, calls, picks, &disk)
 }
 
-/// Expects it of each number of calls.
+/// Expects it of each number of calls and four crashes.
 pub fn expect_cut(alloc: Global, cut: &Cut, disk: &MemDisk) -> Result<(), Fail> {
     expect_cut_with(alloc, cut, 4, disk)
 }
 
-/// Expects it of each number of calls and so many crashes.
+/// Expects it of each number of calls.
 pub fn expect_cut_with(alloc: Global, cut: &Cut, picks: u64, disk: &MemDisk) -> Result<(), Fail> {
     for calls in 0..cut.calls.saturating_add(1) {
-        let disk = stopped(alloc, cut, calls, disk.crash(0)?)?;
-        expect_point(alloc, cut, calls, picks, &disk)?;
+        expect_cut_after(alloc, cut, calls, picks, disk)?;
     }
     Ok(())
 }

@@ -9,7 +9,6 @@ use test_stores::{LAST, THICK, expect_chains, expect_written, image};
 
 /// What stands once some of the puts are done: how many calls of the device were made until the head of the last one
 /// was flushed, the chain, and the values of `k` and `j`.
-#[derive(Clone, Copy)]
 struct Point {
     calls: u64,
     chain: &'static [u32],
@@ -21,7 +20,7 @@ struct Point {
 const MD_PAGES: u32 = 4;
 
 /// The puts, by how their lines begin and their values.
-const PUTS: [(&[u8], Letters); 5] = [
+static PUTS: [(&[u8], Letters); 5] = [
     (b"0 put @0 k t:", (b'1', 1)),
     (b"0 put @0 k t:", (b'x', 4062)),
     (b"0 put @0 j t:", (b'y', 4062)),
@@ -32,7 +31,7 @@ const PUTS: [(&[u8], Letters); 5] = [
 /// Before the puts, and after each. Loading reads seven pages. A put writes each fresh page, flushes, writes the head,
 /// and flushes. Then it overwrites each old page behind the head, and flushes, if there was one. The first put begins
 /// with the mark of a store in use, three calls.
-const POINTS: [Point; 6] = [
+static POINTS: [Point; 6] = [
     Point {
         calls: 0,
         chain: &[0],
@@ -86,9 +85,9 @@ fn one_blob(alloc: Global) -> Result<MemDisk, Fail> {
 }
 
 /// The last of the points that are reached with so many calls.
-fn point_at(calls: u64) -> Point {
-    let mut last = POINTS[0];
-    for point in POINTS {
+fn point_at(calls: u64) -> &'static Point {
+    let mut last = &POINTS[0];
+    for point in &POINTS {
         if point.calls <= calls {
             last = point;
         }
@@ -99,8 +98,8 @@ fn point_at(calls: u64) -> Point {
 /// The script of the puts.
 fn script(alloc: Global) -> Result<Vec<u8>, Fail> {
     let mut script = Vec::new(alloc);
-    for (begin, value) in PUTS {
-        push_long(&mut script, begin, value)?;
+    for (begin, value) in &PUTS {
+        push_long(&mut script, begin, *value)?;
     }
     Ok(script)
 }
@@ -108,7 +107,7 @@ fn script(alloc: Global) -> Result<Vec<u8>, Fail> {
 /// The lines of the puts that are answered in so many calls of the device.
 fn answered(alloc: Global, calls: u64) -> Result<Vec<u8>, Fail> {
     let mut lines = Vec::new(alloc);
-    for (index, point) in POINTS[1..].iter().enumerate() {
+    for (index, point) in POINTS.iter().skip(1).enumerate() {
         if point.calls <= calls {
             lines.extend_from_slice(format!(in alloc; "0 {index} ok\n")?.as_bytes())?;
         }
@@ -116,28 +115,37 @@ fn answered(alloc: Global, calls: u64) -> Result<Vec<u8>, Fail> {
     Ok(lines)
 }
 
+/// What comes of so many calls of the puts.
+fn cut_puts(alloc: Global, calls: u64) -> Result<Ran<FaultDisk<MemDisk>>, Fail> {
+    let script = script(alloc)?;
+    run(alloc, &script, FaultDisk::stopping(one_blob(alloc)?, calls))
+}
+
 /// How many lines of a printed text end in `ok`.
 fn count_of_ok(printed: &[u8]) -> usize {
     printed.iter().filter(|b| **b == b'k').count()
 }
 
+/// Whether a printed text begins so, and answers as many puts with `ok`.
+fn is_answered(text: &[u8], printed: &[u8]) -> bool {
+    text.starts_with(printed) && count_of_ok(text) == count_of_ok(printed)
+}
+
 /// The disk after so many calls of the device, with as many puts done as are answered so. The run ends well with all
 /// its calls alone.
 fn stopped(alloc: Global, calls: u64) -> Result<MemDisk, Fail> {
-    let disk = FaultDisk::stopping(one_blob(alloc)?, calls);
-    let Ran { status, out, disk } = run(alloc, &script(alloc)?, disk)?;
+    let Ran { status, out, disk } = cut_puts(alloc, calls)?;
     if matches!(status, Status::Good) != (calls >= ALL_CALLS) {
         return Err(Fail::new(format_args!("{calls} calls ended with {status:?}")));
     }
-    let done = answered(alloc, calls)?;
-    if !out.bytes().starts_with(&done) || count_of_ok(out.bytes()) != count_of_ok(&done) {
+    if !is_answered(out.bytes(), &answered(alloc, calls)?) {
         return Err(Fail::new(format_args!("other puts are answered in {calls} calls")));
     }
     Ok(disk.into_inner())
 }
 
 /// What is printed of the two values of a point.
-fn told(alloc: Global, point: Point) -> Result<Vec<u8>, Fail> {
+fn told(alloc: Global, point: &Point) -> Result<Vec<u8>, Fail> {
     let mut lines = Vec::new(alloc);
     push_told(alloc, &mut lines, 0, point.k)?;
     push_told(alloc, &mut lines, 1, point.j)?;
@@ -145,24 +153,32 @@ fn told(alloc: Global, point: Point) -> Result<Vec<u8>, Fail> {
 }
 
 /// Expects that what is loaded has the values and the chain of a point.
-fn expect_point(alloc: Global, disk: MemDisk, point: Point) -> Result<(), Fail> {
+fn expect_point(alloc: Global, disk: MemDisk, point: &Point) -> Result<(), Fail> {
     let look = b"0 getx @0 k\n0 getx @0 j\n";
     let disk = play(alloc, look, &told(alloc, point)?, disk)?;
     expect_chains(alloc, disk, &[(0, point.chain)])
 }
 
-/// A put whose head is written and not flushed may be there or not: it is where a crash leaves the last write, as pick
-/// 1 says.
+/// Expects it of each crash after so many calls. A put whose head is written and not flushed may be there or not: it is
+/// where a crash leaves the last write, as pick 1 says.
+fn expect_crashes(alloc: Global, calls: u64, disk: &MemDisk) -> Result<(), Fail> {
+    for pick in 0..4 {
+        let reached = calls.saturating_add(u64::from(pick == 1));
+        expect_point(alloc, disk.crash(pick)?, point_at(reached))?;
+    }
+    Ok(())
+}
+
 #[test]
 fn each_crash_leaves_the_puts_that_were_done(rt: HostRuntime) -> Result<(), Fail> {
-    let alloc = rt.alloc();
     for calls in 0..ALL_CALLS + 1 {
-        let disk = stopped(alloc, calls)?;
-        for pick in 0..4 {
-            let reached = if pick == 1 { calls + 1 } else { calls };
-            expect_point(alloc, disk.crash(pick)?, point_at(reached))?;
-        }
+        expect_crashes(rt.alloc(), calls, &stopped(rt.alloc(), calls)?)?;
     }
-    let mut disk = stopped(alloc, ALL_CALLS)?;
+    Ok(())
+}
+
+#[test]
+fn the_puts_leave_the_head_alone(rt: HostRuntime) -> Result<(), Fail> {
+    let mut disk = stopped(rt.alloc(), ALL_CALLS)?;
     expect_written(&mut disk, MD_PAGES, &[0])
 }

@@ -8,7 +8,7 @@ use test_runs::play;
 use test_stores::image;
 
 /// The script, and a look at what it leaves.
-const RENAMES: Cut = Cut {
+static RENAMES: Cut = Cut {
     script: b"0 rename v w\n0 rename w v\n",
     look: b"0 getx @0 name\n0 getx v k\n0 getx w k\n0 df\n",
     points: POINTS,

@@ -11,7 +11,6 @@ use test_stores::{ChainRow, expect_chains};
 pub type Step = (u64, Option<(u64, u64)>);
 
 /// What stands of the metadata from so many calls of the device on: the last line of the look, and the chains.
-#[derive(Clone, Copy)]
 pub struct Stand {
     pub calls: u64,
     pub free: &'static str,
@@ -20,7 +19,6 @@ pub struct Stand {
 
 /// A script, its steps, a look that reads so many pages of a volume from the first on and asks what is free, what
 /// stands at which calls, the calls of loading, and those of the whole run with its unload.
-#[derive(Clone, Copy)]
 pub struct Story {
     pub script: &'static [u8],
     pub steps: &'static [Step],
@@ -32,30 +30,32 @@ pub struct Story {
 }
 
 /// The last of what stands that is reached with so many calls.
-fn stand_at(stands: &[Stand], calls: u64) -> Result<Stand, Fail> {
+fn stand_at(stands: &'static [Stand], calls: u64) -> Result<&'static Stand, Fail> {
     let mut last = None;
     for stand in stands {
         if stand.calls <= calls {
-            last = Some(*stand);
+            last = Some(stand);
         }
     }
     Ok(last.ok_or("nothing stands yet")?)
 }
 
+/// The answer to a command where so many are done, and the next one meets a call that fails: that one is told it, and
+/// all later ones that the store has stopped there.
+fn answer(alloc: Global, index: usize, done: usize) -> Result<String, Fail> {
+    if index > done {
+        return Ok(format!(in alloc; "0 {index} stopped {done}\n")?);
+    }
+    let word = if index < done { "ok" } else { "fault" };
+    Ok(format!(in alloc; "0 {index} {word}\n")?)
+}
+
 /// What is printed of a script of these steps that is cut off after so many calls.
 fn printed(alloc: Global, steps: &[Step], calls: u64) -> Result<Vec<u8>, Fail> {
+    let done = steps.iter().filter(|(until, _)| *until <= calls).count();
     let mut lines = Vec::new(alloc);
-    let mut done: usize = 0;
-    for (index, (until, _)) in steps.iter().enumerate() {
-        let line = if *until <= calls {
-            done = index.saturating_add(1);
-            format!(in alloc; "0 {index} ok\n")?
-        } else if index == done {
-            format!(in alloc; "0 {index} fault\n")?
-        } else {
-            format!(in alloc; "0 {index} stopped {done}\n")?
-        };
-        lines.extend_from_slice(line.as_bytes())?;
+    for index in 0..steps.len() {
+        lines.extend_from_slice(answer(alloc, index, done)?.as_bytes())?;
     }
     Ok(lines)
 }
@@ -123,7 +123,9 @@ fn expect_look(
     let Ok(text) = str::from_utf8(told) else {
         return Err(Fail::new("no text is printed"));
     };
-    let mut lines = 0;
+    if text.lines().count() != story.pages.saturating_add(1) {
+        return Err(Fail::new(format_args!("{calls} calls and pick {pick} leave: {text}")));
+    }
     for (index, line) in text.lines().enumerate() {
         let fits = if index < story.pages {
             may_be_told(alloc, story.steps, calls, index, line, is_tearing(pick))?
@@ -133,10 +135,6 @@ fn expect_look(
         if !fits {
             return Err(Fail::new(format_args!("{calls} calls and pick {pick} leave: {line}")));
         }
-        lines = index.saturating_add(1);
-    }
-    if lines != story.pages.saturating_add(1) {
-        return Err(Fail::new(format_args!("{calls} calls and pick {pick} leave {lines} lines")));
     }
     Ok(())
 }
@@ -151,11 +149,7 @@ fn expect_crash(
     pick: u64,
     disk: &MemDisk,
 ) -> Result<(), Fail> {
-    let reached = if pick % 4 == 1 {
-        calls.saturating_add(1)
-    } else {
-        calls
-    };
+    let reached = calls.saturating_add(u64::from(pick % 4 == 1));
     let stand = stand_at(story.stands, reached)?;
     let Ran {
         status: _,
@@ -166,14 +160,26 @@ fn expect_crash(
     expect_chains(alloc, disk, stand.chains)
 }
 
+/// Expects it of so many crashes.
+fn expect_crashes(
+    alloc: Global,
+    story: &Story,
+    calls: u64,
+    picks: u64,
+    disk: &MemDisk,
+) -> Result<(), Fail> {
+    for pick in 0..picks {
+        expect_crash(alloc, story, calls, pick, disk)?;
+    }
+    Ok(())
+}
+
 /// Expects that whenever power fails in a run of the script on a flushed device, each page that is settled is read as
 /// it was written last, and no cluster and no metadata page is lost.
 pub fn expect_story(alloc: Global, story: &Story, picks: u64, disk: &MemDisk) -> Result<(), Fail> {
     for calls in story.loading..story.calls.saturating_add(1) {
         let disk = stopped(alloc, story, calls, disk.crash(0)?)?;
-        for pick in 0..picks {
-            expect_crash(alloc, story, calls, pick, &disk)?;
-        }
+        expect_crashes(alloc, story, calls, picks, &disk)?;
     }
     Ok(())
 }

@@ -9,7 +9,7 @@ use test_runs::play;
 use test_stores::{fill, image};
 
 /// A thick volume is made, grows and shrinks, and is looked at from the last page of each slot.
-const THICK: Cut = Cut {
+static THICK: Cut = Cut {
     script: b"0 create a 2 thick\n0 resize a 3\n0 resize a 1\n",
     look: b"0 read a 3 2\n0 read a 7 2\n0 read a 11 2\n0 df\n",
     points: THICK_POINTS,
@@ -71,7 +71,7 @@ fn each_crash_leaves_the_slots_before_or_after(rt: HostRuntime) -> Result<(), Fa
 }
 
 /// A thick volume with a chain of three pages grows.
-const LONG: Cut = Cut {
+static LONG: Cut = Cut {
     script: b"0 resize a 2\n",
     look: b"0 read a 3 2\n0 df\n",
     points: LONG_POINTS,

@@ -8,7 +8,7 @@ use test_runs::play;
 use test_stores::{image, volume};
 
 /// A snapshot is made and cloned, has one clone too many to be deleted, and is deleted; and a look at all volumes.
-const FAMILY: Cut = Cut {
+static FAMILY: Cut = Cut {
     script: b"0 snapshot v s\n0 clone s c\n0 read c 0 1\n0 delete s\n0 delete c\n0 delete s\n0 read v 0 1\n",
     look: b"0 list\n0 read v 0 1\n0 read s 0 1\n0 write s 0 1 1\n0 read c 0 1\n0 df\n",
     points: FAMILY_POINTS,
@@ -87,7 +87,7 @@ fn each_crash_leaves_a_snapshot_whole_or_not_at_all(rt: HostRuntime) -> Result<(
 }
 
 /// The volume has a chain of three pages, and its snapshot one. Both are deleted.
-const LONG: Cut = Cut {
+static LONG: Cut = Cut {
     script: b"0 snapshot v s\n0 delete s\n0 delete v\n",
     look: b"0 list\n0 read v 16 1\n0 df\n",
     points: LONG_POINTS,
@@ -138,7 +138,7 @@ fn each_crash_leaves_the_long_chains_before_or_after(rt: HostRuntime) -> Result<
 }
 
 /// A page is written, and the snapshot that is made then shows it.
-const WRITTEN: Cut = Cut {
+static WRITTEN: Cut = Cut {
     script: b"0 write v 0 1 6\n0 snapshot v s\n0 delete s\n",
     look: b"0 read v 0 2\n0 read s 0 2\n",
     points: WRITTEN_POINTS,
@@ -179,7 +179,7 @@ fn a_snapshot_settles_what_was_written_before_it(rt: HostRuntime) -> Result<(), 
     let alloc = rt.alloc();
     let disk = with_volume(alloc)?;
     for calls in FLUSHED..WRITTEN.calls.saturating_add(1) {
-        expect_cut_after(alloc, &WRITTEN, calls, &disk)?;
+        expect_cut_after(alloc, &WRITTEN, calls, 4, &disk)?;
     }
     Ok(())
 }

@@ -16,14 +16,12 @@ const SCRIPT: &[u8] =
 const LOOK: &[u8] = b"0 list\n0 read v 0 2\n0 read s 0 2\n0 write s 0 1 1\n0 df\n";
 
 /// What a later run finds, and the chains, without the snapshot or with it.
-#[derive(Clone, Copy)]
 struct Found {
     printed: &'static [u8],
     chains: &'static [ChainRow<'static>],
 }
 
 /// A volume `v` whose chain has so many pages: the attribute that makes it so long, and what is found.
-#[derive(Clone, Copy)]
 struct StopCase {
     letters: usize,
     without: Found,
@@ -32,80 +30,73 @@ struct StopCase {
 
 /// The store has eight metadata pages, so that clusters 0 to 2 are fixed; `v` and `w` have a cluster each. An attribute
 /// of 4,000 letters stands in a second page, with the runs; one of 4,062 fills that, and the runs stand in a third.
-const STOPS: [StopCase; 3] = [
-    StopCase {
-        letters: 0,
-        without: Found {
-            printed: b"0 0 list 2\nvolume @0 v slots 1 parent - thin rw xattrs 3\n\
-                volume @1 w slots 1 parent - thick rw xattrs 2\n0 1 page fill 0000000000000007\n\
-                0 2 page fill 0000000000000008\n0 3 no volume\n0 4 no volume\n0 5 no volume\n\
-                0 6 df clusters 11 of 16 pages 6 of 8\n",
-            chains: &[(0, &[0]), (1, &[1])],
-        },
-        with: Found {
-            printed: b"0 0 list 3\nvolume @0 v slots 1 parent @2 thin rw xattrs 3\n\
-                volume @1 w slots 1 parent - thick rw xattrs 2\nvolume @2 s slots 1 parent - thin ro xattrs 2\n\
-                0 1 page fill 0000000000000007\n0 2 page fill 0000000000000008\n0 3 page fill 0000000000000007\n\
-                0 4 page fill 0000000000000008\n0 5 read only\n0 6 df clusters 11 of 16 pages 5 of 8\n",
-            chains: &[(0, &[0]), (1, &[1]), (2, &[2])],
-        },
+static ONE_PAGE: StopCase = StopCase {
+    letters: 0,
+    without: Found {
+        printed: b"0 0 list 2\nvolume @0 v slots 1 parent - thin rw xattrs 3\n\
+            volume @1 w slots 1 parent - thick rw xattrs 2\n0 1 page fill 0000000000000007\n\
+            0 2 page fill 0000000000000008\n0 3 no volume\n0 4 no volume\n0 5 no volume\n\
+            0 6 df clusters 11 of 16 pages 6 of 8\n",
+        chains: &[(0, &[0]), (1, &[1])],
     },
-    StopCase {
-        letters: 4000,
-        without: Found {
-            printed: b"0 0 list 2\nvolume @0 v slots 1 parent - thin rw xattrs 3\n\
-                volume @1 w slots 1 parent - thick rw xattrs 2\n0 1 page fill 0000000000000007\n\
-                0 2 page fill 0000000000000008\n0 3 no volume\n0 4 no volume\n0 5 no volume\n\
-                0 6 df clusters 11 of 16 pages 5 of 8\n",
-            chains: &[(0, &[0, 2]), (1, &[1])],
-        },
-        with: Found {
-            printed: b"0 0 list 3\nvolume @0 v slots 1 parent @3 thin rw xattrs 3\n\
-                volume @1 w slots 1 parent - thick rw xattrs 2\nvolume @3 s slots 1 parent - thin ro xattrs 2\n\
-                0 1 page fill 0000000000000007\n0 2 page fill 0000000000000008\n0 3 page fill 0000000000000007\n\
-                0 4 page fill 0000000000000008\n0 5 read only\n0 6 df clusters 11 of 16 pages 4 of 8\n",
-            chains: &[(0, &[0, 4]), (1, &[1]), (3, &[3])],
-        },
+    with: Found {
+        printed: b"0 0 list 3\nvolume @0 v slots 1 parent @2 thin rw xattrs 3\n\
+            volume @1 w slots 1 parent - thick rw xattrs 2\nvolume @2 s slots 1 parent - thin ro xattrs 2\n\
+            0 1 page fill 0000000000000007\n0 2 page fill 0000000000000008\n0 3 page fill 0000000000000007\n\
+            0 4 page fill 0000000000000008\n0 5 read only\n0 6 df clusters 11 of 16 pages 5 of 8\n",
+        chains: &[(0, &[0]), (1, &[1]), (2, &[2])],
     },
-    StopCase {
-        letters: 4062,
-        without: Found {
-            printed: b"0 0 list 2\nvolume @0 v slots 1 parent - thin rw xattrs 3\n\
-                volume @1 w slots 1 parent - thick rw xattrs 2\n0 1 page fill 0000000000000007\n\
-                0 2 page fill 0000000000000008\n0 3 no volume\n0 4 no volume\n0 5 no volume\n\
-                0 6 df clusters 11 of 16 pages 4 of 8\n",
-            chains: &[(0, &[0, 2, 3]), (1, &[1])],
-        },
-        with: Found {
-            printed: b"0 0 list 3\nvolume @0 v slots 1 parent @4 thin rw xattrs 3\n\
-                volume @1 w slots 1 parent - thick rw xattrs 2\nvolume @4 s slots 1 parent - thin ro xattrs 2\n\
-                0 1 page fill 0000000000000007\n0 2 page fill 0000000000000008\n0 3 page fill 0000000000000007\n\
-                0 4 page fill 0000000000000008\n0 5 read only\n0 6 df clusters 11 of 16 pages 3 of 8\n",
-            chains: &[(0, &[0, 5, 6]), (1, &[1]), (4, &[4])],
-        },
+};
+
+static TWO_PAGES: StopCase = StopCase {
+    letters: 4000,
+    without: Found {
+        printed: b"0 0 list 2\nvolume @0 v slots 1 parent - thin rw xattrs 3\n\
+            volume @1 w slots 1 parent - thick rw xattrs 2\n0 1 page fill 0000000000000007\n\
+            0 2 page fill 0000000000000008\n0 3 no volume\n0 4 no volume\n0 5 no volume\n\
+            0 6 df clusters 11 of 16 pages 5 of 8\n",
+        chains: &[(0, &[0, 2]), (1, &[1])],
     },
-];
+    with: Found {
+        printed: b"0 0 list 3\nvolume @0 v slots 1 parent @3 thin rw xattrs 3\n\
+            volume @1 w slots 1 parent - thick rw xattrs 2\nvolume @3 s slots 1 parent - thin ro xattrs 2\n\
+            0 1 page fill 0000000000000007\n0 2 page fill 0000000000000008\n0 3 page fill 0000000000000007\n\
+            0 4 page fill 0000000000000008\n0 5 read only\n0 6 df clusters 11 of 16 pages 4 of 8\n",
+        chains: &[(0, &[0, 4]), (1, &[1]), (3, &[3])],
+    },
+};
+
+static THREE_PAGES: StopCase = StopCase {
+    letters: 4062,
+    without: Found {
+        printed: b"0 0 list 2\nvolume @0 v slots 1 parent - thin rw xattrs 3\n\
+            volume @1 w slots 1 parent - thick rw xattrs 2\n0 1 page fill 0000000000000007\n\
+            0 2 page fill 0000000000000008\n0 3 no volume\n0 4 no volume\n0 5 no volume\n\
+            0 6 df clusters 11 of 16 pages 4 of 8\n",
+        chains: &[(0, &[0, 2, 3]), (1, &[1])],
+    },
+    with: Found {
+        printed: b"0 0 list 3\nvolume @0 v slots 1 parent @4 thin rw xattrs 3\n\
+            volume @1 w slots 1 parent - thick rw xattrs 2\nvolume @4 s slots 1 parent - thin ro xattrs 2\n\
+            0 1 page fill 0000000000000007\n0 2 page fill 0000000000000008\n0 3 page fill 0000000000000007\n\
+            0 4 page fill 0000000000000008\n0 5 read only\n0 6 df clusters 11 of 16 pages 3 of 8\n",
+        chains: &[(0, &[0, 5, 6]), (1, &[1]), (4, &[4])],
+    },
+};
 
 /// The store with both volumes, of which `v` has an attribute of so many letters.
 fn with_volumes(alloc: Global, letters: usize) -> Result<MemDisk, Fail> {
-    let mut script = Vec::new(alloc);
-    script.extend_from_slice(b"0 create v 1 thin\n0 create w 1 thick\n0 write v 0 2 7\n")?;
+    let begin = b"0 create v 1 thin\n0 create w 1 thick\n0 write v 0 2 7\n";
+    let mut script = Vec::from_slice(alloc, begin)?;
     push_long(&mut script, b"0 put v k t:", (b'x', letters))?;
     let printed = b"0 0 ok @0\n0 1 ok @1\n0 2 ok\n0 3 ok\n0 4 ok\n";
     Ok(play(alloc, &script, printed, image(alloc, (64, 8), &[])?)?.crash(0)?)
 }
 
-/// The device after so many calls, what was printed, and whether the run ended well.
-fn stopped(alloc: Global, calls: u64, disk: MemDisk) -> Result<(MemDisk, Vec<u8>, bool), Fail> {
-    let call = Call {
-        line: "run store.img --schedule 0+1+m*200",
-        script: SCRIPT,
-        failing_reads: &[],
-        failing_writes: &[],
-    };
-    let Ran { status, out, disk } = perform(alloc, &call, FaultDisk::stopping(disk, calls))?;
-    let printed = Vec::from_slice(alloc, out.bytes())?;
-    Ok((disk.into_inner(), printed, matches!(status, Status::Good)))
+/// What comes of so many calls of the script, where the second channel comes in turn.
+fn cut_script(alloc: Global, calls: u64, disk: MemDisk) -> Result<Ran<FaultDisk<MemDisk>>, Fail> {
+    let call = Call::new("run store.img --schedule 0+1+m*200", SCRIPT);
+    perform(alloc, &call, FaultDisk::stopping(disk, calls))
 }
 
 /// Whether a printed log has a line.
@@ -142,8 +133,21 @@ fn expect_page(alloc: Global, disk: MemDisk, writes: u64, may_be_torn: bool) -> 
     }
 }
 
-/// Expects that what each crash leaves is without the snapshot or with it, and that no blob is marked once a run has
-/// loaded it. Where the next call is the flush behind a commit's head, the crash decides that leaves the last write.
+/// Expects that a crash left this, that no blob is marked once a run has loaded it, and what was written meanwhile.
+fn expect_left(
+    alloc: Global,
+    found: &Found,
+    writes: u64,
+    pick: u64,
+    disk: MemDisk,
+) -> Result<(), Fail> {
+    let left = play(alloc, LOOK, found.printed, disk)?;
+    expect_chains(alloc, left.crash(0)?, found.chains)?;
+    expect_page(alloc, left, writes, pick & 0xAAAA != 0)
+}
+
+/// Expects that what each crash leaves is without the snapshot or with it. Where the next call is the flush behind a
+/// commit's head, the crash decides that leaves the last write.
 fn expect_found(
     alloc: Global,
     case: &StopCase,
@@ -152,32 +156,41 @@ fn expect_found(
     is_last: bool,
 ) -> Result<(), Fail> {
     let writes = written(alloc, printed)?;
-    let is_made = has_line(printed, b"0 0 ok @");
+    let is_made = has_line(printed, MADE);
     for pick in 0..16 {
         let found = if is_made || (is_last && pick % 4 == 1) {
-            case.with
+            &case.with
         } else {
-            case.without
+            &case.without
         };
-        let left = play(alloc, LOOK, found.printed, disk.crash(pick)?)?;
-        expect_chains(alloc, left.crash(0)?, found.chains)?;
-        expect_page(alloc, left, writes, pick & 0xAAAA != 0)?;
+        expect_left(alloc, found, writes, pick, disk.crash(pick)?)?;
     }
     Ok(())
+}
+
+/// What begins the line of a snapshot that is made.
+const MADE: &[u8] = b"0 0 ok @";
+
+/// Whether the snapshot is made with so many calls.
+fn is_made(alloc: Global, calls: u64, disk: MemDisk) -> Result<bool, Fail> {
+    Ok(has_line(cut_script(alloc, calls, disk)?.out.bytes(), MADE))
+}
+
+/// Expects it after so many calls, and says whether the run ended well.
+fn expect_stop(alloc: Global, case: &StopCase, calls: u64, disk: &MemDisk) -> Result<bool, Fail> {
+    let is_last = is_made(alloc, calls.saturating_add(1), disk.crash(0)?)?;
+    let Ran { status, out, disk } = cut_script(alloc, calls, disk.crash(0)?)?;
+    expect_found(alloc, case, &disk.into_inner(), out.bytes(), is_last)?;
+    Ok(matches!(status, Status::Good))
 }
 
 /// Expects it after each number of calls.
 fn expect_stops(alloc: Global, case: &StopCase) -> Result<(), Fail> {
     let disk = with_volumes(alloc, case.letters)?;
-    let mut now = stopped(alloc, 0, disk.crash(0)?)?;
     for calls in 0..100 {
-        let next = stopped(alloc, calls + 1, disk.crash(0)?)?;
-        let is_last = has_line(&next.1, b"0 0 ok @");
-        expect_found(alloc, case, &now.0, &now.1, is_last)?;
-        if now.2 {
+        if expect_stop(alloc, case, calls, &disk)? {
             return Ok(());
         }
-        now = next;
     }
     Err(Fail::new("the run makes more calls"))
 }
@@ -186,15 +199,15 @@ fn expect_stops(alloc: Global, case: &StopCase) -> Result<(), Fail> {
 fn each_crash_beside_writes_leaves_a_snapshot_whole_or_not_at_all(
     rt: HostRuntime,
 ) -> Result<(), Fail> {
-    expect_stops(rt.alloc(), &STOPS[0])
+    expect_stops(rt.alloc(), &ONE_PAGE)
 }
 
 #[test]
 fn each_crash_leaves_a_snapshot_of_a_chain_of_two_pages(rt: HostRuntime) -> Result<(), Fail> {
-    expect_stops(rt.alloc(), &STOPS[1])
+    expect_stops(rt.alloc(), &TWO_PAGES)
 }
 
 #[test]
 fn each_crash_leaves_a_snapshot_of_a_chain_of_three_pages(rt: HostRuntime) -> Result<(), Fail> {
-    expect_stops(rt.alloc(), &STOPS[2])
+    expect_stops(rt.alloc(), &THREE_PAGES)
 }

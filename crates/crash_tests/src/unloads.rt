@@ -11,17 +11,15 @@ use test_stores::volume;
 type Listed = (&'static str, &'static str);
 
 /// A script of one job, how many calls of the device are made before the mark and before the unload, and what is listed
-/// before the run and behind it.
-#[derive(Clone, Copy)]
+/// behind the run.
 struct Session {
     script: &'static [u8],
     mark: u64,
     unload: u64,
-    before: Listed,
     after: Listed,
 }
 
-/// The store of the volume `v`, with a chain of three pages and three clusters.
+/// What is listed before each run: the volume `v`, with a chain of three pages and three clusters.
 const VOLUME: Listed = (
     "store type - cluster 16384 clusters 16 free 8 pages 16 free 13",
     "@0 v 11223344-5566-4788-99aa-bbccddeeff00 slots 7 own 3 parent - thin rw\n",
@@ -30,13 +28,12 @@ const VOLUME: Listed = (
 /// Loading reads the super block, a page that is no mask, 16 metadata pages, and a chain of three pages: 21. The mark
 /// is a flush, the write of the super block, and a flush. The unload writes three pages of masks, flushes, writes the
 /// super block, and flushes.
-const SESSIONS: [Session; 4] = [
+static SESSIONS: [Session; 4] = [
     // Eight pages of zeros, and a flush, the head's write and a flush: 24 + 8 + 3.
     Session {
         script: b"0 create w 2 thick 5f2b4e66-0d0c-4c1e-9a55-3f0a7c2d9b10\n",
         mark: 21,
         unload: 35,
-        before: VOLUME,
         after: (
             "store type - cluster 16384 clusters 16 free 6 pages 16 free 12",
             "@0 v 11223344-5566-4788-99aa-bbccddeeff00 slots 7 own 3 parent - thin rw\n\
@@ -49,7 +46,6 @@ const SESSIONS: [Session; 4] = [
         script: b"0 write v 0 1 7\n",
         mark: 26,
         unload: 38,
-        before: VOLUME,
         after: (
             "store type - cluster 16384 clusters 16 free 7 pages 16 free 13",
             "@0 v 11223344-5566-4788-99aa-bbccddeeff00 slots 7 own 4 parent - thin rw\n",
@@ -61,7 +57,6 @@ const SESSIONS: [Session; 4] = [
         script: b"0 snapshot v c\n",
         mark: 21,
         unload: 41,
-        before: VOLUME,
         after: (
             "store type - cluster 16384 clusters 16 free 8 pages 16 free 12",
             "@0 v 11223344-5566-4788-99aa-bbccddeeff00 slots 7 own 0 parent @3 thin rw\n\
@@ -73,7 +68,6 @@ const SESSIONS: [Session; 4] = [
         script: b"0 delete v\n",
         mark: 21,
         unload: 30,
-        before: VOLUME,
         after: (
             "store type - cluster 16384 clusters 16 free 11 pages 16 free 16",
             "",
@@ -104,6 +98,21 @@ fn expect_listed(alloc: Global, disk: MemDisk, listed: Listed, is_clean: bool) -
     expect_printed(&ran.out, printed.as_bytes())
 }
 
+/// Expects that what each crash leaves, where so many more calls make it last whether the store is clean, is listed so.
+fn expect_crashes(
+    alloc: Global,
+    disk: &MemDisk,
+    behind: u64,
+    listed: Listed,
+    gets_clean: bool,
+) -> Result<(), Fail> {
+    for pick in 0..16 {
+        let is_written = behind == 0 || (behind == 1 && pick % 4 == 1);
+        expect_listed(alloc, disk.crash(pick)?, listed, is_written == gets_clean)?;
+    }
+    Ok(())
+}
+
 /// Expects that what each crash leaves, from so many calls on up to so many, is listed so. With the last of these calls
 /// the super block lasts that says whether the store is clean. Behind the call before it that one is left where a crash
 /// leaves the last write, as pick 1 says, and each fourth one behind it. A later run of no command leaves the same, and
@@ -118,11 +127,8 @@ fn expect_stops(
     let (from, lasting) = calls;
     for calls in from..lasting.saturating_add(1) {
         let disk = stopped(alloc, session, calls)?;
-        for pick in 0..16 {
-            let is_last = calls.saturating_add(1) == lasting && pick % 4 == 1;
-            let is_written = calls == lasting || is_last;
-            expect_listed(alloc, disk.crash(pick)?, listed, is_written == gets_clean)?;
-        }
+        let behind = lasting.saturating_sub(calls);
+        expect_crashes(alloc, &disk, behind, listed, gets_clean)?;
         let later = play(alloc, b"", b"", disk.crash(15)?)?;
         expect_listed(alloc, later, listed, true)?;
     }
@@ -133,7 +139,7 @@ fn expect_stops(
 fn each_crash_in_the_mark_leaves_the_volumes_as_they_were(rt: HostRuntime) -> Result<(), Fail> {
     for session in &SESSIONS {
         let calls = (session.mark, session.mark.saturating_add(3));
-        expect_stops(rt.alloc(), session, calls, session.before, false)?;
+        expect_stops(rt.alloc(), session, calls, VOLUME, false)?;
     }
     Ok(())
 }

@@ -13,7 +13,7 @@ use test_stores::{fill, image};
 /// Loading reads the super block, three masks, and a chain of one page. A write is one call, as a flush is; a
 /// put and a sync flush, write the head, and flush. The put is the first job of the run: it begins with the mark of a
 /// store in use, three calls. The unload that ends the run makes six: 25 + 6.
-const IN_PLACE: Story = Story {
+static IN_PLACE: Story = Story {
     script: b"0 write a 0 2 1\n0 flush\n0 write a 0 1 3\n0 write a 0 1 4\n0 write a 2 1 5\n0 put a k t:x\n\
         0 write a 2 1 6\n0 write a 3 1 7\n0 write a 3 1 8\n0 sync a\n0 write a 1 1 9\n0 write a 0 1 10\n",
     steps: &[
@@ -62,7 +62,7 @@ fn each_crash_leaves_the_settled_pages(rt: HostRuntime) -> Result<(), Fail> {
 ///
 /// A write to an empty slot makes four writes of copies, a flush, and a flush, a write and a flush of the head; then it
 /// writes its page. Between the first slot's copies and its head is the mark of the store, three calls.
-const INTO_EMPTY: Story = Story {
+static INTO_EMPTY: Story = Story {
     script: b"0 write a 1 1 7\n0 flush\n0 write a 4 1 8\n0 put a k t:x\n",
     steps: &[
         // 5 + 5 + 3 + 3 + 1.
@@ -108,7 +108,7 @@ fn each_crash_leaves_a_slot_empty_or_filled(rt: HostRuntime) -> Result<(), Fail>
 /// Loading reads the super block, three masks, and a chain of three pages. Behind the four copies and their flush the
 /// insert marks the store, writes two fresh pages, flushes, writes the head, and flushes: 7 + 5 + 3 + 2 + 3. Then it
 /// overwrites two old pages, and flushes: 20 + 3. Two writes, a flush and the unload end the run: 23 + 3 + 6.
-const ON_LONG_CHAIN: Story = Story {
+static ON_LONG_CHAIN: Story = Story {
     script: b"0 write a 1 1 7\n0 write a 2 1 8\n0 flush\n",
     steps: &[(24, Some((1, 7))), (25, Some((2, 8))), (26, None)],
     look: b"0 read a 0 4\n0 df\n",
@@ -131,9 +131,9 @@ const ON_LONG_CHAIN: Story = Story {
 
 /// A store whose thin volume `a` of one slot has a chain of three pages.
 fn long_chain(alloc: Global) -> Result<MemDisk, Fail> {
-    let disk = with_volume(alloc, 5, b"0 create a 1 thin\n")?;
     let mut script = Vec::new(alloc);
     push_long(&mut script, b"0 put a k t:", (b'x', 4062))?;
+    let disk = with_volume(alloc, 5, b"0 create a 1 thin\n")?;
     play(alloc, &script, b"0 0 ok\n", disk)
 }
 
@@ -145,7 +145,7 @@ fn each_crash_leaves_the_long_chain_of_a_slot(rt: HostRuntime) -> Result<(), Fai
 
 /// A pick, and what a crash leaves by it of a page of sevens that was written over zeros and is open: the old page, the
 /// new one, or the new one with these bits of its last byte turned.
-const OPEN: [(u64, &[u8]); 4] = [
+static OPEN: [(u64, &[u8]); 4] = [
     (0, b"0 0 page fill 0000000000000000\n"),
     (1, b"0 0 page fill 0000000000000007\n"),
     (2, b"0 0 page crc 382ba452\n"),
@@ -165,16 +165,24 @@ fn cut_write(alloc: Global, calls: u64, printed: &[u8]) -> Result<MemDisk, Fail>
     Ok(disk.into_inner())
 }
 
+/// What is read of the page once it is flushed.
+const WRITTEN: &[u8] = b"0 0 page fill 0000000000000007\n";
+
+/// Expects what is read of the page.
+fn expect_read(alloc: Global, printed: &[u8], disk: MemDisk) -> Result<(), Fail> {
+    play(alloc, b"0 read a 3 1\n", printed, disk)?;
+    Ok(())
+}
+
 /// A page that is written is lost by some crashes, though its write was answered, and by none once it is flushed.
 #[test]
 fn an_open_page_may_be_lost(rt: HostRuntime) -> Result<(), Fail> {
     let alloc = rt.alloc();
     let open = cut_write(alloc, 6, b"0 0 ok\n0 1 fault\n")?;
     let settled = cut_write(alloc, 7, b"0 0 ok\n0 1 ok\n")?;
-    for (pick, left) in OPEN {
-        play(alloc, b"0 read a 3 1\n", left, open.crash(pick)?)?;
-        let kept = b"0 0 page fill 0000000000000007\n";
-        play(alloc, b"0 read a 3 1\n", kept, settled.crash(pick)?)?;
+    for (pick, left) in &OPEN {
+        expect_read(alloc, left, open.crash(*pick)?)?;
+        expect_read(alloc, WRITTEN, settled.crash(*pick)?)?;
     }
     Ok(())
 }

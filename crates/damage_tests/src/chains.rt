@@ -20,7 +20,7 @@ const SHORT_FLAGS: Part = Part::Bytes(b"\x03\x17\0\0\0");
 const UNKNOWN: Part = Part::Bytes(b"\x09\x02\0\0\0xx");
 
 /// Links and what they lead to.
-const LINKS: [Row; 24] = [
+static LINKS: [Row; 24] = [
     (&[TO_3, SECOND], "loaded"),
     // Past the region's end, by a head and by another page: the least place there, and the greatest, since one more
     // ends the chain. The page that has the link is told.
@@ -138,7 +138,7 @@ const LINKS: [Row; 24] = [
 ];
 
 /// Descriptors of the head at place 0: which is bad, where it begins and of which type it is.
-const ITEMS: [(&[Part], &str); 12] = [
+static ITEMS: [(&[Part], &str); 12] = [
     // Runs of no byte, and of no multiple of 8.
     (
         &[THIN, Part::Runs(&[])],
@@ -199,13 +199,13 @@ const ITEMS: [(&[Part], &str); 12] = [
 ];
 
 /// A chain whose second page has a wrong id and sequence, a bad descriptor, and a link past the region's end.
-const WRONG: [MdRow; 2] = [TO_3, (3, ID + 7, 2, 16, &[SHORT_FLAGS])];
+static WRONG: [MdRow; 2] = [TO_3, (3, ID + 7, 2, 16, &[SHORT_FLAGS])];
 
 const UNSOUND: &str = "Chain { head: 0, fault: Unsound { page: 3 } }";
 
 /// The byte of which a bit is turned, by the device's page, and what comes of loading that: of the second page, and of
 /// the head, which is no head then.
-const TURNED: [(&[(u64, usize)], &str); 7] = [
+static TURNED: [(&[(u64, usize)], &str); 7] = [
     (&[(7, 0)], UNSOUND),
     (&[(7, 8)], UNSOUND),
     (&[(7, 4087)], UNSOUND),
@@ -214,6 +214,12 @@ const TURNED: [(&[(u64, usize)], &str); 7] = [
     (&[(4, 100)], "loaded"),
     (&[(4, 4095)], "loaded"),
 ];
+
+/// Expects this bad descriptor of the head at place 0.
+fn expect_bad(alloc: Global, parts: &'static [Part], bad: &str) -> Result<(), Fail> {
+    let wanted = format!(in alloc; "Chain {{ head: 0, fault: {bad} }}")?;
+    expect_blobs(alloc, &[(0, parts)], wanted.as_str())
+}
 
 fn expect_rows(alloc: Global, rows: &[Row]) -> Result<(), Fail> {
     for (rows, wanted) in rows {
@@ -229,9 +235,8 @@ fn each_link_that_breaks_says_where(rt: HostRuntime) -> Result<(), Fail> {
 
 #[test]
 fn a_bad_descriptor_says_where_it_begins(rt: HostRuntime) -> Result<(), Fail> {
-    for (parts, bad) in ITEMS {
-        let wanted = format!(in rt.alloc(); "Chain {{ head: 0, fault: {bad} }}")?;
-        expect_blobs(rt.alloc(), &[(0, parts)], wanted.as_str())?;
+    for (parts, bad) in &ITEMS {
+        expect_bad(rt.alloc(), parts, bad)?;
     }
     Ok(())
 }
@@ -239,7 +244,7 @@ fn a_bad_descriptor_says_where_it_begins(rt: HostRuntime) -> Result<(), Fail> {
 /// The sum is tested before all that is wrong there too.
 #[test]
 fn a_page_with_a_turned_bit_is_not_sound(rt: HostRuntime) -> Result<(), Fail> {
-    for (turned, wanted) in TURNED {
+    for (turned, wanted) in &TURNED {
         let image = Image {
             rows: &WRONG,
             turned,

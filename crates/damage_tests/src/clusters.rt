@@ -12,7 +12,7 @@ const SEVEN: Part = Part::Runs(&[(7, 1)]);
 
 /// Blobs, and the least cluster that stands in two of their slots, with the heads of the first two: by heads upwards,
 /// and then by slots.
-const SHARED: [(&[Blob], &str); 10] = [
+static SHARED: [(&[Blob], &str); 10] = [
     (
         &[
             (0, &[THICK, FIVE]),
@@ -87,7 +87,7 @@ const SHARED: [(&[Blob], &str); 10] = [
 ];
 
 /// Blobs of which recovery removes those with a mark: their clusters are those of other blobs.
-const REMOVED: [&[Blob]; 4] = [
+static REMOVED: [&[Blob]; 4] = [
     // A snapshot that is being made of the blob at place 0, which isn't yet over it.
     &[
         (0, &[THIN, FIVE]),
@@ -116,7 +116,7 @@ const REMOVED: [&[Blob]; 4] = [
 type Row = (Words, &'static [Part], &'static str);
 
 /// The fixed clusters are those up to the end of the last region, and others are up to the last whole cluster.
-const BOUNDS: [Row; 10] = [
+static BOUNDS: [Row; 10] = [
     // One metadata page more takes cluster 5.
     (
         &[(52, 17)],
@@ -159,7 +159,7 @@ const BOUNDS: [Row; 10] = [
 
 #[test]
 fn the_least_shared_cluster_is_told(rt: HostRuntime) -> Result<(), Fail> {
-    for (blobs, wanted) in SHARED {
+    for (blobs, wanted) in &SHARED {
         expect_blobs(rt.alloc(), blobs, wanted)?;
     }
     Ok(())
@@ -167,7 +167,7 @@ fn the_least_shared_cluster_is_told(rt: HostRuntime) -> Result<(), Fail> {
 
 #[test]
 fn what_recovery_removes_shares_no_cluster(rt: HostRuntime) -> Result<(), Fail> {
-    for blobs in REMOVED {
+    for blobs in &REMOVED {
         expect_blobs(rt.alloc(), blobs, "loaded")?;
     }
     Ok(())
@@ -175,7 +175,7 @@ fn what_recovery_removes_shares_no_cluster(rt: HostRuntime) -> Result<(), Fail> 
 
 #[test]
 fn fixed_clusters_and_those_past_the_last_are_outside(rt: HostRuntime) -> Result<(), Fail> {
-    for (words, parts, wanted) in BOUNDS {
+    for (words, parts, wanted) in &BOUNDS {
         let rows: [MdRow; 1] = [(0, ID, 0, LAST, parts)];
         let image = Image {
             words,

@@ -3,9 +3,10 @@
 use crate::images::{ID, Image, LAST, MdRow, SMALL, device};
 use crate::loads::loaded;
 use crate::parts::{Part, READ_ONLY, THICK, THIN};
-use page_disk::{CallKind, Fail, FaultDisk, MemDisk, PageDisk};
+use page_disk::{CallKind, Fail, FaultDisk, MemDisk};
 use std::alloc::Global;
 use std::test::Fail as TestFail;
+use unclean_load::LoadFault;
 
 /// A head at place 0 that links to place 3, and the page there.
 const TO_3: MdRow = (0, ID, 0, 3, &[THIN]);
@@ -18,7 +19,7 @@ const LARGE: &[Part] = &[THIN, Part::Runs(&[(0, 1 << 20)])];
 /// An image, its fault, and the text of that.
 pub(crate) type Case = (Image<'static>, &'static str, &'static str);
 
-pub(crate) const CASES: [Case; 19] = [
+pub(crate) static CASES: [Case; 19] = [
     (
         Image {
             words: &[(0, 0)],
@@ -205,30 +206,32 @@ pub(crate) fn too_large(alloc: Global) -> Result<MemDisk, TestFail> {
     device(alloc, &image)
 }
 
-/// Expects that a device is not loaded, for this fault, which is told so.
-fn expect_told<D: PageDisk + Drop>(
-    alloc: Global,
-    disk: D,
-    fault: &str,
-    text: &str,
-) -> Result<(), TestFail> {
-    let (_disk, found) = loaded(alloc, disk);
-    let Some(found) = found else {
-        return Err(TestFail::new(format_args!("it is loaded, and not {fault}")));
-    };
-    let (value, told) = (
-        format!(in alloc; "{found:?}")?,
-        format!(in alloc; "{found}")?,
-    );
-    if value.as_str() != fault || told.as_str() != text {
-        return Err(TestFail::new(format_args!("it is {value}: {told}")));
+/// Expects a text, or fails.
+fn expect_text(found: String, wanted: &str) -> Result<(), TestFail> {
+    if found.as_str() != wanted {
+        return Err(TestFail::new(found));
     }
     Ok(())
 }
 
+/// Expects that a device was not loaded for this fault, which is told so.
+fn expect_told(
+    alloc: Global,
+    found: Option<LoadFault>,
+    fault: &str,
+    text: &str,
+) -> Result<(), TestFail> {
+    let Some(found) = found else {
+        return Err(TestFail::new(format_args!("it is loaded, and not {fault}")));
+    };
+    expect_text(format!(in alloc; "{found:?}")?, fault)?;
+    expect_text(format!(in alloc; "{found}")?, text)
+}
+
 fn expect_cases(alloc: Global, cases: &[Case]) -> Result<(), TestFail> {
     for (image, fault, text) in cases {
-        expect_told(alloc, device(alloc, image)?, fault, text)?;
+        let (_disk, found) = loaded(alloc, device(alloc, image)?);
+        expect_told(alloc, found, fault, text)?;
     }
     Ok(())
 }
@@ -240,23 +243,28 @@ fn each_fault_of_an_image_is_told_with_its_numbers(rt: HostRuntime) -> Result<()
 
 #[test]
 fn maps_that_are_too_large_are_told_with_their_slots(rt: HostRuntime) -> Result<(), TestFail> {
+    let (_disk, found) = loaded(rt.alloc(), too_large(rt.alloc())?);
     let (fault, text) = TOO_LARGE;
-    expect_told(rt.alloc(), too_large(rt.alloc())?, fault, text)
+    expect_told(rt.alloc(), found, fault, text)
 }
 
 /// Reads of a load: of the super block, of the first metadata page and of the last one.
 const READS: [u64; 3] = [1, 2, 17];
 
+/// The store with which nothing is wrong, of which this read fails.
+fn failing(alloc: Global, nth: u64) -> Result<FaultDisk<MemDisk>, TestFail> {
+    let fail = Fail {
+        kind: CallKind::Read,
+        nth,
+    };
+    Ok(FaultDisk::new(device(alloc, &SMALL)?, vec![in alloc; fail]?))
+}
+
 #[test]
 fn a_page_that_is_not_read_is_a_fault(rt: HostRuntime) -> Result<(), TestFail> {
     for nth in READS {
-        let fail = Fail {
-            kind: CallKind::Read,
-            nth,
-        };
-        let fails = vec![in rt.alloc(); fail]?;
-        let failing = FaultDisk::new(device(rt.alloc(), &SMALL)?, fails);
-        expect_told(rt.alloc(), failing, "ReadFault", "a page could not be read")?;
+        let (_disk, found) = loaded(rt.alloc(), failing(rt.alloc(), nth)?);
+        expect_told(rt.alloc(), found, "ReadFault", "a page could not be read")?;
     }
     Ok(())
 }

@@ -18,7 +18,7 @@ const STRANGE: Part = Part::Bytes(b"\x02\x0A\0\0\0\x04\0\x02\0name@\xFF");
 type Row = (Image<'static>, &'static [u8], &'static [u8]);
 
 /// Images without a fault.
-const LOADED: [Row; 5] = [
+static LOADED: [Row; 5] = [
     // A clean store whose page mask has the type of another mask, and whose mask of blobs lacks the one blob.
     (
         Image {
@@ -71,15 +71,21 @@ const LOADED: [Row; 5] = [
     ),
 ];
 
-/// Expects what each command prints, and that each metadata page is read.
+/// Expects what a command prints, and that each metadata page is read.
+fn expect_row(alloc: Global, row: &Row) -> Result<(), Fail> {
+    let (image, script, printed) = row;
+    let disk = FaultDisk::new(device(alloc, image)?, Vec::new(alloc));
+    let reads = play(alloc, script, printed, disk)?.calls(CallKind::Read);
+    if reads <= 16 {
+        return Err(Fail::new(format_args!("{reads} reads are too few")));
+    }
+    Ok(())
+}
+
+/// Expects it of each row of a table.
 fn expect_rows(alloc: Global, rows: &[Row]) -> Result<(), Fail> {
-    for (image, script, printed) in rows {
-        let disk = FaultDisk::new(device(alloc, image)?, Vec::new(alloc));
-        let disk = play(alloc, script, printed, disk)?;
-        let reads = disk.calls(CallKind::Read);
-        if reads <= 16 {
-            return Err(Fail::new(format_args!("{reads} reads are too few")));
-        }
+    for row in rows {
+        expect_row(alloc, row)?;
     }
     Ok(())
 }

@@ -107,13 +107,19 @@ fn put_rows(alloc: Global, disk: &mut MemDisk, rows: &[MdRow]) -> Result<(), Fai
     Ok(())
 }
 
-/// Turns the lowest bit of a byte of a device.
-fn turn(disk: &mut MemDisk, at: u64, place: usize) -> Result<(), Fail> {
+/// Reads a page of a device.
+pub(crate) fn page_at(disk: &mut MemDisk, at: u64) -> Result<Page, Fail> {
     if at >= disk.pages() {
         return Err(Fail::new(format_args!("the device has no page {at}")));
     }
     let mut page: Page = [0; 4096];
     disk.read(at, &mut page)?;
+    Ok(page)
+}
+
+/// Turns the lowest bit of a byte of a device.
+fn turn(disk: &mut MemDisk, at: u64, place: usize) -> Result<(), Fail> {
+    let mut page = page_at(disk, at)?;
     let byte = page.get(place).copied().ok_or("the page has no such byte")?;
     put_bytes(&mut page, place, &[byte ^ 1])?;
     put(disk, at, &page)
@@ -126,15 +132,26 @@ fn turn_all(disk: &mut MemDisk, turned: &[(u64, usize)]) -> Result<(), Fail> {
     Ok(())
 }
 
+fn put_fronts(disk: &mut MemDisk, masks: &[(u64, &[u8])]) -> Result<(), Fail> {
+    for (at, front) in masks {
+        put_front(disk, *at, front)?;
+    }
+    Ok(())
+}
+
+/// Writes an image to a device.
+fn put_image(alloc: Global, disk: &mut MemDisk, image: &Image<'_>) -> Result<(), Fail> {
+    put_super(disk, image.words)?;
+    put_fronts(disk, image.masks)?;
+    put_rows(alloc, disk, image.rows)?;
+    turn_all(disk, image.turned)?;
+    disk.flush()?;
+    Ok(())
+}
+
 /// The device of an image.
 pub(crate) fn device(alloc: Global, image: &Image<'_>) -> Result<MemDisk, Fail> {
     let mut disk = MemDisk::new(alloc, image.pages, 128)?;
-    put_super(&mut disk, image.words)?;
-    for (at, front) in image.masks {
-        put_front(&mut disk, *at, front)?;
-    }
-    put_rows(alloc, &mut disk, image.rows)?;
-    turn_all(&mut disk, image.turned)?;
-    disk.flush()?;
+    put_image(alloc, &mut disk, image)?;
     Ok(disk)
 }

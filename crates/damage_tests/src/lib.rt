@@ -9,6 +9,8 @@ mod chains;
 #[cfg(test)]
 mod clusters;
 #[cfg(test)]
+mod ends;
+#[cfg(test)]
 mod faults;
 #[cfg(test)]
 mod harmless;

@@ -29,15 +29,12 @@ pub(crate) fn loaded<D: PageDisk + Drop>(alloc: Global, disk: D) -> (D, Option<L
     }
 }
 
-/// Expects this fault of an image, or `loaded`, and at most so many reads.
-pub(crate) fn expect_reads(
+/// Expects this fault, or `loaded`, or fails.
+pub(crate) fn expect_fault(
     alloc: Global,
-    image: &Image<'_>,
+    fault: &Option<LoadFault>,
     wanted: &str,
-    most: u64,
 ) -> Result<(), Fail> {
-    let calls = FaultDisk::new(device(alloc, image)?, Vec::new(alloc));
-    let (calls, fault) = loaded(alloc, calls);
     let found = match fault {
         None => format!(in alloc; "loaded")?,
         Some(fault) => format!(in alloc; "{fault:?}")?,
@@ -45,7 +42,20 @@ pub(crate) fn expect_reads(
     if found.as_str() != wanted {
         return Err(Fail::new(format_args!("it is {found}, and not {wanted}")));
     }
-    let reads = calls.calls(CallKind::Read);
+    Ok(())
+}
+
+/// Expects this fault of an image, or `loaded`, and at most so many reads.
+pub(crate) fn expect_reads(
+    alloc: Global,
+    image: &Image<'_>,
+    wanted: &str,
+    most: u64,
+) -> Result<(), Fail> {
+    let disk = FaultDisk::new(device(alloc, image)?, Vec::new(alloc));
+    let (disk, fault) = loaded(alloc, disk);
+    expect_fault(alloc, &fault, wanted)?;
+    let reads = disk.calls(CallKind::Read);
     if reads > most {
         return Err(Fail::new(format_args!("{reads} reads for {wanted}")));
     }

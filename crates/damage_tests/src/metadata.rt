@@ -18,7 +18,7 @@ const HOLE: Part = Part::Runs(&[(0, 1)]);
 const FIVE: Part = Part::Runs(&[(5, 1)]);
 
 /// The bits of the flags that a load must know: bits 0 and 1, and none else.
-const FLAGS: [Row; 9] = [
+static FLAGS: [Row; 9] = [
     (&[Part::Flags([3, 0, 0])], "loaded"),
     (&[Part::Flags([4, 0, 0])], "UnknownFlag { bits: 4 }"),
     (&[Part::Flags([15, 0, 0])], "UnknownFlag { bits: 12 }"),
@@ -40,7 +40,7 @@ const FLAGS: [Row; 9] = [
 ];
 
 /// Maps: at most 2^20 slots, clusters from 5 to 15, and no empty slot of a thick blob.
-const MAPS: [Row; 24] = [
+static MAPS: [Row; 24] = [
     (&[THIN, MILLION], "loaded"),
     (&[THIN, MILLION, HOLE], "TooLarge { slots: 1048577 }"),
     (
@@ -122,7 +122,7 @@ const MAPS: [Row; 24] = [
 ];
 
 /// Marks have 8 bytes.
-const MARKS: [Row; 11] = [
+static MARKS: [Row; 11] = [
     (
         &[Part::Internal(b"SNAP", b"")],
         "BadMark { key: Blobtext { bytes: [83, 78, 65, 80] }, length: 0 }",
@@ -167,7 +167,7 @@ const MARKS: [Row; 11] = [
 ];
 
 /// Names and uuids that no volume made here has.
-const NAMES: [Row; 6] = [
+static NAMES: [Row; 6] = [
     // Without a NUL at the end, without a byte, with NULs alone, and with bytes that no name has.
     (&[Part::Bytes(b"\x02\x09\0\0\0\x04\0\x01\0namev")], "loaded"),
     (&[Part::Bytes(b"\x02\x08\0\0\0\x04\0\0\0name")], "loaded"),
@@ -187,15 +187,19 @@ const NAMES: [Row; 6] = [
     (&[Part::Bytes(b"\x02\x04\0\0\0\0\0\0\0")], "loaded"),
 ];
 
+/// Expects this fault of the metadata of the head at place 0, or `loaded`.
+fn expect_meta(alloc: Global, parts: &'static [Part], wanted: &str) -> Result<(), Fail> {
+    if wanted == "loaded" {
+        return expect_blobs(alloc, &[(0, parts)], wanted);
+    }
+    let wanted = format!(in alloc; "Meta {{ head: 0, fault: {wanted} }}")?;
+    expect_blobs(alloc, &[(0, parts)], wanted.as_str())
+}
+
 /// Expects what comes of each head of a table.
 fn expect_rows(alloc: Global, rows: &[Row]) -> Result<(), Fail> {
     for (parts, wanted) in rows {
-        if *wanted == "loaded" {
-            expect_blobs(alloc, &[(0, parts)], wanted)?;
-        } else {
-            let wanted = format!(in alloc; "Meta {{ head: 0, fault: {wanted} }}")?;
-            expect_blobs(alloc, &[(0, parts)], wanted.as_str())?;
-        }
+        expect_meta(alloc, parts, wanted)?;
     }
     Ok(())
 }

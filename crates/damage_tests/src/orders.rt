@@ -13,7 +13,7 @@ type Row = (Words, &'static [MdRow], &'static str);
 /// Descriptors of metadata with a fault.
 const UNKNOWN_FLAG: Part = Part::Flags([4, 0, 0]);
 
-const CASES: [Row; 9] = [
+static CASES: [Row; 9] = [
     // The super block before a chain.
     (
         &[(32, 0)],
@@ -109,7 +109,7 @@ const CASES: [Row; 9] = [
 
 #[test]
 fn the_first_fault_of_an_image_is_told(rt: HostRuntime) -> Result<(), Fail> {
-    for (words, rows, wanted) in CASES {
+    for (words, rows, wanted) in &CASES {
         let image = Image {
             words,
             rows,

@@ -18,7 +18,7 @@ const SNAP_2: Part = Part::Mark(b"SNAP", ID + 2);
 const SNAP_9: Part = Part::Mark(b"SNAP", ID + 9);
 
 /// Parents that aren't there, are writable, or come back.
-const FAULTS: [Row; 21] = [
+static FAULTS: [Row; 21] = [
     // No blob has the id: the least, the greatest, those around the ids of places, and that of a place without a head.
     (
         &[(6, &[THICK, Part::Mark(b"SNAP", 0)])],
@@ -132,7 +132,7 @@ const FAULTS: [Row; 21] = [
 ];
 
 /// Families without a fault.
-const FAMILIES: [&[Blob]; 7] = [
+static FAMILIES: [&[Blob]; 7] = [
     // A line of parents, and two blobs over one.
     &[
         (0, &[READ_ONLY]),
@@ -175,7 +175,7 @@ const FAMILIES: [&[Blob]; 7] = [
 
 #[test]
 fn each_wrong_parent_is_told(rt: HostRuntime) -> Result<(), Fail> {
-    for (blobs, wanted) in FAULTS {
+    for (blobs, wanted) in &FAULTS {
         expect_blobs(rt.alloc(), blobs, wanted)?;
     }
     Ok(())
@@ -183,7 +183,7 @@ fn each_wrong_parent_is_told(rt: HostRuntime) -> Result<(), Fail> {
 
 #[test]
 fn families_without_a_fault_are_loaded(rt: HostRuntime) -> Result<(), Fail> {
-    for blobs in FAMILIES {
+    for blobs in &FAMILIES {
         expect_blobs(rt.alloc(), blobs, "loaded")?;
     }
     Ok(())

@@ -25,50 +25,51 @@ pub(crate) const THIN: Part = Part::Flags([1, 0, 0]);
 
 pub(crate) const READ_ONLY: Part = Part::Flags([1, 1, 0]);
 
-fn words_of(alloc: Global, words: &[u64; 3]) -> Result<Vec<u8>, Fail> {
-    let mut bytes = Vec::new(alloc);
-    for word in words {
-        bytes.extend_from_slice(&word.to_le_bytes())?;
-    }
-    Ok(bytes)
-}
-
-fn runs_of(alloc: Global, runs: &[(u32, u32)]) -> Result<Vec<u8>, Fail> {
-    let mut bytes = Vec::new(alloc);
-    for (cluster, length) in runs {
-        bytes.extend_from_slice(&cluster.to_le_bytes())?;
-        bytes.extend_from_slice(&length.to_le_bytes())?;
-    }
-    Ok(bytes)
-}
-
-fn attribute_of(alloc: Global, name: &[u8], value: &[u8]) -> Result<Vec<u8>, Fail> {
-    let mut bytes = Vec::new(alloc);
-    bytes.extend_from_slice(&u16::try_from(name.len())?.to_le_bytes())?;
-    bytes.extend_from_slice(&u16::try_from(value.len())?.to_le_bytes())?;
-    bytes.extend_from_slice(name)?;
-    bytes.extend_from_slice(value)?;
-    Ok(bytes)
-}
-
-/// Writes a descriptor of this type with these bytes.
-fn push_descriptor(body: &mut Vec<u8>, kind: u8, bytes: &[u8]) -> Result<(), Fail> {
+/// Writes what begins a descriptor of this type, which has so many bytes behind that.
+fn push_begin(body: &mut Vec<u8>, kind: u8, length: usize) -> Result<(), Fail> {
     body.push(kind)?;
-    body.extend_from_slice(&u32::try_from(bytes.len())?.to_le_bytes())?;
-    body.extend_from_slice(bytes)?;
+    body.extend_from_slice(&u32::try_from(length)?.to_le_bytes())?;
     Ok(())
 }
 
-fn push_part(alloc: Global, body: &mut Vec<u8>, part: &Part) -> Result<(), Fail> {
+fn push_flags(body: &mut Vec<u8>, words: &[u64; 3]) -> Result<(), Fail> {
+    push_begin(body, 3, 24)?;
+    for word in words {
+        body.extend_from_slice(&word.to_le_bytes())?;
+    }
+    Ok(())
+}
+
+fn push_runs(body: &mut Vec<u8>, runs: &[(u32, u32)]) -> Result<(), Fail> {
+    push_begin(body, 1, runs.len().saturating_mul(8))?;
+    for (cluster, length) in runs {
+        body.extend_from_slice(&cluster.to_le_bytes())?;
+        body.extend_from_slice(&length.to_le_bytes())?;
+    }
+    Ok(())
+}
+
+fn push_length(body: &mut Vec<u8>, bytes: &[u8]) -> Result<(), Fail> {
+    body.extend_from_slice(&u16::try_from(bytes.len())?.to_le_bytes())?;
+    Ok(())
+}
+
+fn push_attribute(body: &mut Vec<u8>, name: &[u8], value: &[u8]) -> Result<(), Fail> {
+    let length = name.len().saturating_add(value.len()).saturating_add(4);
+    push_begin(body, 4, length)?;
+    push_length(body, name)?;
+    push_length(body, value)?;
+    body.extend_from_slice(name)?;
+    body.extend_from_slice(value)?;
+    Ok(())
+}
+
+fn push_part(body: &mut Vec<u8>, part: &Part) -> Result<(), Fail> {
     match part {
-        Part::Flags(words) => push_descriptor(body, 3, &words_of(alloc, words)?),
-        Part::Runs(runs) => push_descriptor(body, 1, &runs_of(alloc, runs)?),
-        Part::Internal(name, value) => {
-            push_descriptor(body, 4, &attribute_of(alloc, name, value)?)
-        }
-        Part::Mark(name, id) => {
-            push_descriptor(body, 4, &attribute_of(alloc, name, &id.to_le_bytes())?)
-        }
+        Part::Flags(words) => push_flags(body, words),
+        Part::Runs(runs) => push_runs(body, runs),
+        Part::Internal(name, value) => push_attribute(body, name, value),
+        Part::Mark(name, id) => push_attribute(body, name, &id.to_le_bytes()),
         Part::Bytes(bytes) => Ok(body.extend_from_slice(bytes)?),
     }
 }
@@ -77,7 +78,7 @@ fn push_part(alloc: Global, body: &mut Vec<u8>, part: &Part) -> Result<(), Fail>
 pub(crate) fn body_of(alloc: Global, parts: &[Part]) -> Result<Vec<u8>, Fail> {
     let mut body = Vec::new(alloc);
     for part in parts {
-        push_part(alloc, &mut body, part)?;
+        push_part(&mut body, part)?;
     }
     Ok(body)
 }

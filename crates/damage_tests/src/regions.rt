@@ -1,13 +1,13 @@
 //! Super blocks whose regions end past the store, are too short, or have a page in common.
 
 use crate::images::{Image, SMALL};
-use crate::loads::loaded;
+use crate::loads::{expect_fault, loaded};
 use crate::super_blocks::{MOST, Row, Words, expect_rows, expect_super};
 use page_disk::MemDisk;
 use std::test::Fail;
 
 /// The store ends on the device, and each region with a whole cluster of it or before.
-const ENDS: [Row; 25] = [
+static ENDS: [Row; 25] = [
     // The size is above the 64 pages of the device by a byte, and by as much as 2^24 clusters hold. With one byte more
     // there is a cluster more, which is told before.
     (&[(80, 262_145)], "PastEnd { region: Whole }"),
@@ -49,7 +49,7 @@ const ENDS: [Row; 25] = [
 ];
 
 /// A mask has the pages that its bits take, and no page is in two regions.
-const MASKS: [Row; 22] = [
+static MASKS: [Row; 22] = [
     // A mask of 16 bits takes a page.
     (
         &[(36, 0)],
@@ -88,7 +88,7 @@ const MASKS: [Row; 22] = [
 ];
 
 /// Devices of other sizes.
-const DEVICES: [(u64, Words, &str); 6] = [
+static DEVICES: [(u64, Words, &str); 6] = [
     // A size of 0 is that of the device: as many clusters as it can be, and last pages that make no whole cluster.
     (
         u64::MAX,
@@ -145,9 +145,9 @@ fn masks_have_their_pages_and_no_page_is_in_two_regions(rt: HostRuntime) -> Resu
 
 #[test]
 fn the_size_of_the_device_decides(rt: HostRuntime) -> Result<(), Fail> {
-    for (pages, words, wanted) in DEVICES {
+    for (pages, words, wanted) in &DEVICES {
         let image = Image {
-            pages,
+            pages: *pages,
             words,
             ..SMALL
         };
@@ -158,8 +158,6 @@ fn the_size_of_the_device_decides(rt: HostRuntime) -> Result<(), Fail> {
 
 #[test]
 fn a_device_without_pages_has_no_signature(rt: HostRuntime) -> Result<(), Fail> {
-    let (_, fault) = loaded(rt.alloc(), MemDisk::new(rt.alloc(), 0, 0)?);
-    let text = format!(in rt.alloc(); "{fault:?}")?;
-    assert_eq!(rt; text.as_str(), "Some(Super(BadSignature))");
-    Ok(())
+    let (_disk, fault) = loaded(rt.alloc(), MemDisk::new(rt.alloc(), 0, 0)?);
+    expect_fault(rt.alloc(), &fault, "Super(BadSignature)")
 }

@@ -1,23 +1,18 @@
 //! Whole runs over damaged images: how they end.
 
+use crate::ends::{DF, expect_end};
 use crate::faults::{CASES, Case, TOO_LARGE, too_large};
 use crate::images::device;
 use page_disk::{MemDisk, PageDisk};
 use std::alloc::Global;
 use std::test::Fail;
-use test_runs::{Ran, Status, expect_printed, run};
 
 /// Expects that a run of a command on a device ends with this fault of its image, prints nothing, and neither writes nor
 /// flushes.
 fn expect_fault(alloc: Global, disk: MemDisk, fault: &str) -> Result<(), Fail> {
     let clock = disk.clock();
-    let Ran { status, out, disk } = run(alloc, b"0 df\n", disk)?;
-    expect_printed(&out, b"")?;
-    let ended = format!(in alloc; "{status:?}")?;
     let wanted = format!(in alloc; "Image {{ fault: {fault} }}")?;
-    if ended != wanted {
-        return Err(Fail::new(ended));
-    }
+    let disk = expect_end(alloc, &DF, (wanted.as_str(), b""), disk)?;
     if disk.clock() != clock {
         return Err(Fail::new(format_args!("the device changed at {fault}")));
     }

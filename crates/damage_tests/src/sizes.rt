@@ -17,7 +17,7 @@ const LARGE: &[Part] = &[THIN, MILLION];
 /// What stands behind 16 thin blobs of 2^20 empty slots, and what comes of loading them all.
 type Row = (&'static [MdRow], &'static str);
 
-const CASES: [Row; 8] = [
+static CASES: [Row; 8] = [
     // Together they have 2^24 slots, and blobs without slots add none.
     (&[], "loaded"),
     (&[(20, ID + 20, 0, LAST, &[THIN])], "loaded"),
@@ -88,7 +88,7 @@ fn expect_beside(alloc: Global, others: &[MdRow], wanted: &str) -> Result<(), Fa
 
 #[test]
 fn maps_may_have_2_to_the_24_slots_together(rt: HostRuntime) -> Result<(), Fail> {
-    for (others, wanted) in CASES {
+    for (others, wanted) in &CASES {
         expect_beside(rt.alloc(), others, wanted)?;
     }
     Ok(())

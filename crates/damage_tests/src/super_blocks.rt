@@ -15,7 +15,7 @@ pub(crate) type Words = &'static [(usize, u32)];
 pub(crate) type Row = (Words, &'static str);
 
 /// Fields that are tested by themselves, at the least and the greatest value that fails, and beside what passes.
-const FIELDS: [Row; 21] = [
+static FIELDS: [Row; 21] = [
     // The signature is SPDKBLOB: another first byte, and another last one.
     (&[(0, 0x4B44_5054)], "BadSignature"),
     (&[(4, 0x624F_4C42)], "BadSignature"),
@@ -64,7 +64,7 @@ const FIELDS: [Row; 21] = [
 ];
 
 /// Two tests fail, of which the first is told.
-const ORDERS: [Row; 16] = [
+static ORDERS: [Row; 16] = [
     // Signature and version; sizes of a metadata page and of a cluster; size of a cluster and metadata pages;
     // metadata pages and clusters.
     (&[(0, 0x4B44_5054), (8, 2)], "BadSignature"),
@@ -111,7 +111,7 @@ const ORDERS: [Row; 16] = [
 
 /// Bytes of which a bit is turned behind the sum: of the rest and of the sum, at both ends; beside a wrong version, which is
 /// told before; and beside a wrong size of a metadata page, which isn't.
-const SUMS: [(&[(u64, usize)], Words, &str); 6] = [
+static SUMS: [(&[(u64, usize)], Words, &str); 6] = [
     (&[(0, 96)], &[], "BadChecksum"),
     (&[(0, 4091)], &[], "BadChecksum"),
     (&[(0, 4092)], &[], "BadChecksum"),
@@ -149,7 +149,7 @@ fn of_two_tests_the_first_is_told(rt: HostRuntime) -> Result<(), Fail> {
 
 #[test]
 fn a_turned_bit_is_no_sum(rt: HostRuntime) -> Result<(), Fail> {
-    for (turned, words, wanted) in SUMS {
+    for (turned, words, wanted) in &SUMS {
         let image = Image {
             words,
             turned,

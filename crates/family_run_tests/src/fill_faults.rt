@@ -11,6 +11,16 @@ fn made(alloc: Global, script: &[u8], printed: &[u8]) -> Result<MemDisk, TestFai
     play(alloc, script, printed, image(alloc, (64, 16), &[])?)
 }
 
+/// A device of which this call fails.
+fn failing(
+    alloc: Global,
+    kind: CallKind,
+    nth: u64,
+    disk: MemDisk,
+) -> Result<FaultDisk<MemDisk>, TestFail> {
+    Ok(FaultDisk::new(disk, vec![in alloc; Fail { kind, nth }]?))
+}
+
 /// A thin volume of two slots, both of which its snapshot holds.
 fn with_two_filled(alloc: Global) -> Result<MemDisk, TestFail> {
     made(
@@ -70,11 +80,7 @@ fn expect_read_fault(
     nth: u64,
     printed: &[u8],
 ) -> Result<(), TestFail> {
-    let fail = Fail {
-        kind: CallKind::Read,
-        nth,
-    };
-    let disk = FaultDisk::new(with_two_filled(alloc)?, vec![in alloc; fail]?);
+    let disk = failing(alloc, CallKind::Read, nth, with_two_filled(alloc)?)?;
     let disk = play(alloc, script, printed, disk)?;
     let (again, found) = FILL_AGAIN;
     play(alloc, again, found, disk.into_inner())?;
@@ -83,8 +89,8 @@ fn expect_read_fault(
 
 #[test]
 fn a_failed_read_ends_a_fill_and_keeps_what_is_filled(rt: HostRuntime) -> Result<(), TestFail> {
-    for (script, nth, printed) in FAILED_READS {
-        expect_read_fault(rt.alloc(), script, nth, printed)?;
+    for (script, nth, printed) in &FAILED_READS {
+        expect_read_fault(rt.alloc(), script, *nth, printed)?;
     }
     Ok(())
 }
@@ -150,12 +156,11 @@ fn expect_found(alloc: Global, disk: MemDisk, clear: u32, form: &str) -> Result<
 /// Expects that the command that meets a failed call tells it, and what a later run finds.
 fn expect_stop(alloc: Global, failed: &FailedCall) -> Result<(), TestFail> {
     let (verb, kind, nth, clear, form) = *failed;
-    let fail = Fail { kind, nth };
-    let disk = FaultDisk::new(with_one_filled(alloc)?, vec![in alloc; fail]?);
+    let disk = failing(alloc, kind, nth, with_one_filled(alloc)?)?;
     let script = format!(in alloc; "0 {verb} v\n0 read v 0 1\n0 setx v k t:1\n")?;
     let Ran { status, out, disk } = run(alloc, script.as_bytes(), disk)?;
     if !matches!(status, Status::Device { at: 0 }) {
-        return Err(TestFail::new(format_args!("with {fail:?} it ended as {status:?}")));
+        return Err(TestFail::new(format_args!("with {kind:?} {nth} it ended as {status:?}")));
     }
     expect_printed(&out, b"0 0 fault\n0 1 stopped 0\n0 2 stopped 0\n")?;
     expect_found(alloc, disk.into_inner(), clear, form)
@@ -200,18 +205,11 @@ fn run_stopped(alloc: Global, steps: u32, nth: u64) -> Result<Ran<FaultDisk<MemD
         b"0 0 ok @2\n",
         with_one_filled(alloc)?,
     )?;
-    let fail = Fail {
-        kind: CallKind::Write,
-        nth,
-    };
+    let disk = failing(alloc, CallKind::Write, nth, disk)?;
     let line = format!(in alloc; "run store.img --schedule 0*2,m*{steps},1,2*2,m*9")?;
-    let call = Call {
-        line: line.as_str(),
-        script: b"0 inflate v\n0 flush\n1 write w 0 1 5\n2 setx w k t:1\n",
-        failing_reads: &[],
-        failing_writes: &[],
-    };
-    perform(alloc, &call, FaultDisk::new(disk, vec![in alloc; fail]?))
+    let script = b"0 inflate v\n0 flush\n1 write w 0 1 5\n2 setx w k t:1\n";
+    let call = Call::new(line.as_str(), script);
+    perform(alloc, &call, disk)
 }
 
 /// Expects that the inflate and what waits for it are told that the store stopped, and that no cluster is lost.
@@ -235,8 +233,8 @@ fn expect_stopped(alloc: Global, steps: u32, nth: u64, clear: u32) -> Result<(),
 
 #[test]
 fn a_store_that_stops_ends_a_fill_at_any_stage(rt: HostRuntime) -> Result<(), TestFail> {
-    for (steps, nth, clear) in STOPPED {
-        expect_stopped(rt.alloc(), steps, nth, clear)?;
+    for (steps, nth, clear) in &STOPPED {
+        expect_stopped(rt.alloc(), *steps, *nth, *clear)?;
     }
     Ok(())
 }

@@ -4,7 +4,7 @@ use std::alloc::Global;
 use std::test::Fail;
 
 /// An attribute: its key, told by a letter, and a value of so many times one letter.
-#[derive(Clone, Copy, Debug)]
+#[derive(Clone, Copy)]
 pub struct Attribute {
     pub key: u8,
     pub letter: u8,
@@ -55,5 +55,10 @@ pub fn without(alloc: Global, list: &[Attribute], key: u8) -> Result<Vec<Attribu
 
 /// Whether a list has an attribute of this key.
 pub fn has(list: &[Attribute], key: u8) -> bool {
-    list.iter().any(|attribute| attribute.key == key)
+    for attribute in list {
+        if attribute.key == key {
+            return true;
+        }
+    }
+    false
 }

@@ -59,22 +59,48 @@ pub fn runs_in(map: &[Option<u32>]) -> usize {
     runs
 }
 
+/// The pages that are begun behind the head of a chain, and how much is left of the last one.
+struct Filled {
+    pages: usize,
+    left: usize,
+}
+
+impl Filled {
+    /// Puts something of this size there, on a new page where it doesn't fit.
+    fn put(&mut self, size: usize) {
+        if size > self.left {
+            self.pages = self.pages.wrapping_add(1);
+            self.left = BODY;
+        }
+        self.left = self.left.saturating_sub(size);
+    }
+
+    /// Puts attributes there.
+    fn put_attributes(&mut self, attributes: &[Attribute]) {
+        for attribute in attributes {
+            self.put(attribute.length.saturating_add(10));
+        }
+    }
+
+    /// Puts internal attributes of these sizes there.
+    fn put_internal(&mut self, sizes: &[usize]) {
+        for size in sizes {
+            self.put(*size);
+        }
+    }
+}
+
 /// How many pages a chain has behind its head: the head begins with the flags, each attribute goes to a new page where
 /// it doesn't fit, as each internal one does behind them, of these sizes, and so many runs go on in new pages as long
 /// as some are left.
 pub fn tail_length(attributes: &[Attribute], internal: &[usize], runs: usize) -> usize {
-    let mut pages = 0usize;
-    let mut left = BODY - FLAGS - NAME - UUID;
-    let sizes = attributes
-        .iter()
-        .map(|attribute| attribute.length.saturating_add(10));
-    for size in sizes.chain(internal.iter().copied()) {
-        if size > left {
-            pages = pages.wrapping_add(1);
-            left = BODY;
-        }
-        left = left.saturating_sub(size);
-    }
+    let mut filled = Filled {
+        pages: 0,
+        left: BODY - FLAGS - NAME - UUID,
+    };
+    filled.put_attributes(attributes);
+    filled.put_internal(internal);
+    let Filled { pages, left } = filled;
     let has_room = left >= 13 && runs <= left.saturating_sub(5) / 8;
     if runs == 0 || has_room {
         pages

@@ -68,8 +68,8 @@ fn push_end(script: &mut Vec<u8>, ask: &Ask) -> Result<(), Fail> {
     Ok(())
 }
 
-/// Appends the line of a channel that asks for this, a read or a write for so many pages. Its volume is told by its head,
-/// if there is one here, and else by its name.
+/// Appends the line of a channel that asks for this, a read or a write for so many pages. Its volume is told by its
+/// head, if there is one here, and else by its name.
 pub fn push_line(
     alloc: Global,
     script: &mut Vec<u8>,
@@ -82,8 +82,10 @@ pub fn push_line(
     if let Some(name) = ask.name() {
         push_volume(alloc, script, name, head)?;
     }
-    for number in numbers(ask, count).iter().flatten() {
-        push_number(alloc, script, b" ", *number)?;
+    for number in &numbers(ask, count) {
+        if let Some(number) = number {
+            push_number(alloc, script, b" ", *number)?;
+        }
     }
     push_end(script, ask)
 }

@@ -178,9 +178,13 @@ impl Shown {
 
     /// How many blobs there are, without those that recovery removes.
     fn blob_count(&self) -> usize {
-        (0..self.masks.pages.len())
-            .filter(|head| self.metas.get(*head).is_some())
-            .count()
+        let mut count = 0usize;
+        for head in 0..self.masks.pages.len() {
+            if self.metas.get(head).is_some() {
+                count = count.wrapping_add(1);
+            }
+        }
+        count
     }
 
     /// Whether these volumes are there and no others.

@@ -61,8 +61,12 @@ fn create(
 /// Cuts a volume's map to so many slots: the clusters of the others are clear.
 fn cut(next: &mut State, name: u8, slots: usize) -> Result<(), Fail> {
     let volume = named(&next.volumes, name)?;
-    for cluster in volume.map.iter().skip(slots).flatten() {
-        give_back(&mut next.used_clusters, *cluster);
+    for (at, slot) in volume.map.iter().enumerate() {
+        if let Some(cluster) = slot {
+            if at >= slots {
+                give_back(&mut next.used_clusters, *cluster);
+            }
+        }
     }
     next.find_mut(name)?.map.truncate(slots);
     Ok(())

@@ -107,7 +107,12 @@ impl State {
 
     /// The volume of a name.
     pub fn find(&self, name: u8) -> Option<&Volume> {
-        self.volumes.iter().find(|volume| volume.name == name)
+        for volume in &self.volumes {
+            if volume.name == name {
+                return Some(volume);
+            }
+        }
+        None
     }
 
     /// The volume of a name, to be changed, or a failure.
@@ -118,9 +123,12 @@ impl State {
 
     /// The volume at a head.
     fn at(&self, head: u32) -> Option<&Volume> {
-        self.volumes
-            .iter()
-            .find(|volume| volume.head() == Some(head))
+        for volume in &self.volumes {
+            if volume.head() == Some(head) {
+                return Some(volume);
+            }
+        }
+        None
     }
 
     /// The parent of a volume, if it has one.

@@ -53,8 +53,8 @@ pub(crate) struct State {
     pub(crate) repaired: &'static [PageRow],
     /// Whether the volume `s` is there then; its slots are those of `v`.
     pub(crate) is_made: bool,
-    /// How many of 16 metadata pages are free then.
-    pub(crate) free: u32,
+    /// How many of 16 metadata pages are free then, in decimal.
+    pub(crate) free: &'static [u8],
 }
 
 /// The snapshot at head 3 of the volume at head 5 before its job and after each replacement, and then its delete after
@@ -64,43 +64,43 @@ pub(crate) const STATES: [State; 11] = [
         found: &[VOLUME],
         repaired: &[VOLUME],
         is_made: false,
-        free: 15,
+        free: b"15",
     },
     State {
         found: &[(3, 3, 0, LAST, &[THIN, S_NAMED, SNAPTMP, EMPTY]), VOLUME],
         repaired: &[VOLUME],
         is_made: false,
-        free: 15,
+        free: b"15",
     },
     State {
         found: &[MAPPED, VOLUME],
         repaired: &[VOLUME],
         is_made: false,
-        free: 15,
+        free: b"15",
     },
     State {
         found: &[MAPPED, CHILD],
         repaired: &[SNAPSHOT, CHILD],
         is_made: true,
-        free: 14,
+        free: b"14",
     },
     State {
         found: &[SNAPSHOT, CHILD],
         repaired: &[SNAPSHOT, CHILD],
         is_made: true,
-        free: 14,
+        free: b"14",
     },
     State {
         found: &[DELETED, CHILD],
         repaired: &[SNAPSHOT, CHILD],
         is_made: true,
-        free: 14,
+        free: b"14",
     },
     State {
         found: &[DELETED, VOLUME],
         repaired: &[VOLUME],
         is_made: false,
-        free: 15,
+        free: b"15",
     },
     // Of two marks that of the delete counts, and both go.
     State {
@@ -116,14 +116,14 @@ pub(crate) const STATES: [State; 11] = [
         ],
         repaired: &[SNAPSHOT, CHILD],
         is_made: true,
-        free: 14,
+        free: b"14",
     },
     // One blob is kept, and another is removed.
     State {
         found: &[(2, 2, 0, LAST, &[THIN, SNAPTMP, SEVEN]), MAPPED, CHILD],
         repaired: &[SNAPSHOT, CHILD],
         is_made: true,
-        free: 14,
+        free: b"14",
     },
     // A snapshot whose chain has two pages is kept, for which a fresh page is taken and the old one is cleared;
     State {
@@ -138,7 +138,7 @@ pub(crate) const STATES: [State; 11] = [
             CHILD,
         ],
         is_made: true,
-        free: 13,
+        free: b"13",
     },
     // and one is removed.
     State {
@@ -149,7 +149,7 @@ pub(crate) const STATES: [State; 11] = [
         ],
         repaired: &[VOLUME],
         is_made: false,
-        free: 15,
+        free: b"15",
     },
 ];
 
@@ -158,4 +158,13 @@ pub(crate) fn family(alloc: Global, rows: &[PageRow]) -> Result<MemDisk, Fail> {
     let mut disk = image(alloc, (64, 16), rows)?;
     fill(&mut disk, 28, 32)?;
     Ok(disk)
+}
+
+/// Texts one behind the other.
+pub(crate) fn joined(alloc: Global, parts: &[&[u8]]) -> Result<Vec<u8>, Fail> {
+    let mut text = Vec::new(alloc);
+    for part in parts {
+        text.extend_from_slice(part)?;
+    }
+    Ok(text)
 }

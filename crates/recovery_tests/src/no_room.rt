@@ -75,7 +75,7 @@ const SCRIPTS: [&[u8]; 3] = [
 /// Expects the status of a run of a script on a store, nothing printed, and the metadata pages that it leaves.
 fn expect_no_room(alloc: Global, case: &Case, script: &[u8]) -> Result<(), Fail> {
     let (rows, wanted, left) = *case;
-    let md_pages = rows.iter().fold(0, |count: u32, _| count.saturating_add(1));
+    let md_pages = u32::try_from(rows.len()).unwrap_or(0);
     let Ran {
         status,
         out,

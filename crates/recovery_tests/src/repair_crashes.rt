@@ -1,6 +1,6 @@
 //! Power that fails while a snapshot is finished or undone, and again while that is.
 
-use crate::families::{STATES, State, family};
+use crate::families::{STATES, State, family, joined};
 use crate::repairs::{LOOK, looked};
 use page_disk::{FaultDisk, MemDisk};
 use std::alloc::Global;
@@ -34,8 +34,8 @@ fn stopped(alloc: Global, disk: MemDisk, calls: u64, counted: &[u8]) -> Result<L
     })
 }
 
-/// How many calls the load of one of these stores makes at least, of a super block, three masks and the pages of a blob,
-/// and where its clusters of data begin.
+/// How many calls the load of one of these stores makes at least, of a super block, three masks and the pages of a
+/// blob, and where its clusters of data begin.
 const LOAD: u64 = 5;
 
 const DATA: u64 = 20;
@@ -49,6 +49,14 @@ fn add(images: &mut Vec<MemDisk>, image: MemDisk) -> Result<(), Fail> {
         }
     }
     images.push(image)?;
+    Ok(())
+}
+
+/// Adds the images that power may leave of a device.
+fn add_left(images: &mut Vec<MemDisk>, disk: &MemDisk) -> Result<(), Fail> {
+    for pick in 0..4 {
+        add(images, disk.crash(pick)?)?;
+    }
     Ok(())
 }
 
@@ -67,9 +75,7 @@ fn images_left(
             is_repaired,
             is_good,
         } = stopped(alloc, store.crash(0)?, calls, counted)?;
-        for pick in 0..4 {
-            add(&mut images, disk.crash(pick)?)?;
-        }
+        add_left(&mut images, &disk)?;
         if is_good || (is_repaired && !in_unload) {
             return Ok(images);
         }
@@ -77,20 +83,24 @@ fn images_left(
     Err(Fail::new("the run makes more calls"))
 }
 
+/// Expects what a look prints of each image.
+fn expect_looks(alloc: Global, images: &[MemDisk], printed: &[u8]) -> Result<(), Fail> {
+    for image in images {
+        play(alloc, LOOK, printed, image.crash(0)?)?;
+    }
+    Ok(())
+}
+
 /// Expects that a state is repaired, whenever power fails in a run on it and then in another one, in the unload of that
 /// one too, if that is asked for.
 fn expect_repaired(alloc: Global, state: &State, in_unload: bool) -> Result<(), Fail> {
-    let counted = format!(in alloc; "0 0 df clusters 10 of 16 pages {} of 16\n", state.free)?;
+    let before = b"0 0 df clusters 10 of 16 pages ";
+    let counted = joined(alloc, &[before, state.free, b" of 16\n"])?;
     let printed = looked(alloc, state)?;
-    for once in images_left(
-        alloc,
-        &family(alloc, state.found)?,
-        counted.as_bytes(),
-        true,
-    )? {
-        for twice in images_left(alloc, &once, counted.as_bytes(), in_unload)? {
-            play(alloc, LOOK, printed.as_bytes(), twice)?;
-        }
+    let once = images_left(alloc, &family(alloc, state.found)?, &counted, true)?;
+    for image in &once {
+        let twice = images_left(alloc, image, &counted, in_unload)?;
+        expect_looks(alloc, &twice, &printed)?;
     }
     Ok(())
 }

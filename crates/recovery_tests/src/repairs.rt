@@ -1,6 +1,6 @@
 //! What recovery makes of each state of a snapshot that is being made or removed.
 
-use crate::families::{STATES, State, family};
+use crate::families::{STATES, State, family, joined};
 use std::alloc::Global;
 use std::test::Fail;
 use test_runs::play;
@@ -11,19 +11,22 @@ pub(crate) const LOOK: &[u8] =
     b"0 df\n0 read v 0 1\n0 read v 4 1\n0 read s 0 1\n0 read s 4 1\n0 write s 0 1 1\n";
 
 /// The snapshot shows what the volume shows, and is read-only; or there is none.
-const MADE: &str =
-    "0 3 page fill abababababababab\n0 4 page fill 0000000000000000\n0 5 read only\n";
+const MADE: &[u8] =
+    b"0 3 page fill abababababababab\n0 4 page fill 0000000000000000\n0 5 read only\n";
 
-const UNDONE: &str = "0 3 no volume\n0 4 no volume\n0 5 no volume\n";
+const UNDONE: &[u8] = b"0 3 no volume\n0 4 no volume\n0 5 no volume\n";
 
 /// What a look prints of a state that is repaired.
-pub(crate) fn looked(alloc: Global, state: &State) -> Result<String, Fail> {
-    Ok(format!(in alloc;
-        "0 0 df clusters 10 of 16 pages {} of 16\n\
-        0 1 page fill abababababababab\n0 2 page fill 0000000000000000\n{}",
-        state.free,
-        if state.is_made { MADE } else { UNDONE }
-    )?)
+pub(crate) fn looked(alloc: Global, state: &State) -> Result<Vec<u8>, Fail> {
+    joined(
+        alloc,
+        &[
+            b"0 0 df clusters 10 of 16 pages ",
+            state.free,
+            b" of 16\n0 1 page fill abababababababab\n0 2 page fill 0000000000000000\n",
+            if state.is_made { MADE } else { UNDONE },
+        ],
+    )
 }
 
 /// A second run finds what the first left, in which nothing is left to repair.
@@ -32,9 +35,9 @@ fn half_made_snapshots_are_finished_or_undone(rt: HostRuntime) -> Result<(), Fai
     let alloc = rt.alloc();
     for state in &STATES {
         let printed = looked(alloc, state)?;
-        let mut disk = play(alloc, LOOK, printed.as_bytes(), family(alloc, state.found)?)?;
+        let mut disk = play(alloc, LOOK, &printed, family(alloc, state.found)?)?;
         expect_rows(alloc, &mut disk, 16, state.repaired)?;
-        play(alloc, LOOK, printed.as_bytes(), disk)?;
+        play(alloc, LOOK, &printed, disk)?;
     }
     Ok(())
 }
@@ -45,24 +48,25 @@ const CHANGES: &[u8] =
     0 resize v 3\n0 create s 1 thin\n0 readonly v\n0 write v 1 1 1\n0 df\n";
 
 /// The volume has a cluster of its own then beside that of its snapshot; or the name `s` is free, and is taken.
-const CHANGED_MADE: &str =
-    "0 0 ok\n0 1 page fill abababababababab\n0 2 page fill 0000000000000009\n\
+const CHANGED_MADE: &[u8] =
+    b"0 0 ok\n0 1 page fill abababababababab\n0 2 page fill 0000000000000009\n\
     0 3 page fill abababababababab\n0 4 page fill abababababababab\n0 5 ok\n0 6 value 31\n0 7 read only\n0 8 ok\n\
     0 9 name taken\n0 10 ok\n0 11 read only\n";
 
-const CHANGED_UNDONE: &str =
-    "0 0 ok\n0 1 page fill abababababababab\n0 2 page fill 0000000000000009\n\
+const CHANGED_UNDONE: &[u8] =
+    b"0 0 ok\n0 1 page fill abababababababab\n0 2 page fill 0000000000000009\n\
     0 3 page fill abababababababab\n0 4 no volume\n0 5 ok\n0 6 value 31\n0 7 no volume\n0 8 ok\n\
     0 9 ok @0\n0 10 ok\n0 11 read only\n";
 
-/// What the changes print of a state.
-fn changed(alloc: Global, state: &State) -> Result<String, Fail> {
-    let (lines, clusters, pages) = if state.is_made {
-        (CHANGED_MADE, 9, state.free)
+/// What the changes print of a state. Where the snapshot is undone 15 metadata pages are free before.
+fn changed(alloc: Global, state: &State) -> Result<Vec<u8>, Fail> {
+    if state.is_made {
+        let before = b"0 12 df clusters 9 of 16 pages ";
+        joined(alloc, &[CHANGED_MADE, before, state.free, b" of 16\n"])
     } else {
-        (CHANGED_UNDONE, 10, state.free.saturating_sub(1))
-    };
-    Ok(format!(in alloc; "{lines}0 12 df clusters {clusters} of 16 pages {pages} of 16\n")?)
+        let space = b"0 12 df clusters 10 of 16 pages 14 of 16\n";
+        joined(alloc, &[CHANGED_UNDONE, space])
+    }
 }
 
 /// Looks at what the changes leave.
@@ -76,24 +80,24 @@ const LATER_UNDONE: &[u8] =
     b"0 0 page fill abababababababab\n0 1 page fill 0000000000000009\n0 2 value 31\n0 3 read only\n\
     0 4 page fill 0000000000000000\n";
 
+/// Expects what the changes print of a state, and a look at what they leave.
+fn expect_changes(alloc: Global, state: &State) -> Result<(), Fail> {
+    let printed = changed(alloc, state)?;
+    let disk = play(alloc, CHANGES, &printed, family(alloc, state.found)?)?;
+    let later = if state.is_made {
+        LATER_MADE
+    } else {
+        LATER_UNDONE
+    };
+    play(alloc, LATER, later, disk)?;
+    Ok(())
+}
+
 /// The commands of the run that makes the repairs are served as those of any other.
 #[test]
 fn a_repaired_store_runs_commands(rt: HostRuntime) -> Result<(), Fail> {
-    let alloc = rt.alloc();
     for state in &STATES {
-        let printed = changed(alloc, state)?;
-        let disk = play(
-            alloc,
-            CHANGES,
-            printed.as_bytes(),
-            family(alloc, state.found)?,
-        )?;
-        let later = if state.is_made {
-            LATER_MADE
-        } else {
-            LATER_UNDONE
-        };
-        play(alloc, LATER, later, disk)?;
+        expect_changes(rt.alloc(), state)?;
     }
     Ok(())
 }

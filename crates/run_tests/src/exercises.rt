@@ -1,107 +1,109 @@
 //! Generated scripts that are run, as an administrator asks for them.
 
-use crate::formats::format;
+use crate::calls::expect_end;
+use crate::formats::expect_new_store;
 use crc32c::sum;
 use page_disk::{FaultDisk, MemDisk};
 use std::alloc::Global;
 use std::test::Fail;
-use test_runs::{Call, Ran, expect_printed, perform, run};
+use streams::ListSink;
+use test_runs::{Call, perform, run};
 
 /// A new store of 16 clusters, with room for the changes of a test.
 fn new_store(alloc: Global) -> Result<MemDisk, Fail> {
-    let ran = format(alloc, "--cluster 16384", &[], MemDisk::new(alloc, 64, 512)?)?;
-    Ok(ran.disk)
+    expect_new_store(alloc, MemDisk::new(alloc, 64, 512)?)
 }
 
-/// What comes of an `exercise` of these words, where these writes to the output fail. The source fails, since it isn't
-/// read.
-fn exercise(
-    alloc: Global,
-    words: &str,
-    failing_writes: &[u64],
-    disk: MemDisk,
-) -> Result<Ran<MemDisk>, Fail> {
-    let line = format!(in alloc; "exercise store.img {words}")?;
-    let call = Call {
-        line: line.as_str(),
+/// A call of which these writes to the output fail. The source fails, since it isn't read.
+fn exercise<'a>(line: &'a str, failing_writes: &'a [u64]) -> Call<'a> {
+    Call {
+        line,
         script: b"",
         failing_reads: &[1],
         failing_writes,
-    };
-    perform(alloc, &call, disk)
+    }
 }
 
-/// The text that `generate` prints for these words.
-fn generated(alloc: Global, words: &str) -> Result<Vec<u8>, Fail> {
-    let line = format!(in alloc; "generate {words}")?;
-    let call = Call {
-        line: line.as_str(),
-        script: b"",
-        failing_reads: &[],
-        failing_writes: &[],
-    };
-    let ran = perform(alloc, &call, MemDisk::new(alloc, 0, 0)?)?;
-    Ok(Vec::from_slice(alloc, ran.out.bytes())?)
+/// Where a call prints a script.
+fn generated(alloc: Global, line: &str) -> Result<ListSink, Fail> {
+    let none = MemDisk::new(alloc, 0, 0)?;
+    Ok(perform(alloc, &Call::new(line, b""), none)?.out)
 }
 
-/// The words, and the line that is printed up to the checksum, which is that of what a `run` of the same script prints.
-/// The last script writes to more slots than there are clusters: seven of its writes find none.
-const CASES: [(&str, &str); 3] = [
-    ("1 3", "entries 7 ok 7 other 0"),
-    ("1 0", "entries 4 ok 4 other 0"),
-    ("2147483647 40", "entries 44 ok 37 other 7"),
+/// The checksum of what a `run` prints of the script that this call prints.
+fn sum_of_run(alloc: Global, generate: &str) -> Result<u32, Fail> {
+    let script = generated(alloc, generate)?;
+    let ran = run(alloc, script.bytes(), new_store(alloc)?)?;
+    Ok(sum(ran.out.bytes()))
+}
+
+/// The line of such a script that is run, with these counts.
+fn line_of(alloc: Global, generate: &str, counts: &str) -> Result<String, Fail> {
+    let sum = sum_of_run(alloc, generate)?;
+    Ok(format!(in alloc; "{counts} crc {sum:08x}\n")?)
+}
+
+/// The call that prints a script, the one that runs it, and the line that this prints up to the checksum, which is that
+/// of what a `run` of the script prints. The last script writes to more slots than there are clusters: seven of its
+/// writes find none.
+static CASES: [(&str, &str, &str); 3] = [
+    (
+        "generate 1 3",
+        "exercise store.img 1 3",
+        "entries 7 ok 7 other 0",
+    ),
+    (
+        "generate 1 0",
+        "exercise store.img 1 0",
+        "entries 4 ok 4 other 0",
+    ),
+    (
+        "generate 2147483647 40",
+        "exercise store.img 2147483647 40",
+        "entries 44 ok 37 other 7",
+    ),
 ];
 
 #[test]
 fn the_line_sums_up_the_log_of_a_run(rt: HostRuntime) -> Result<(), Fail> {
-    let alloc = rt.alloc();
-    for (words, line) in &CASES {
-        let ran = run(alloc, &generated(alloc, words)?, new_store(alloc)?)?;
-        let wanted = format!(in alloc; "{line} crc {:08x}\n", sum(ran.out.bytes()))?;
-        let ran = exercise(alloc, words, &[], new_store(alloc)?)?;
-        expect_printed(&ran.out, wanted.as_bytes())?;
+    for (generate, line, counts) in &CASES {
+        let printed = line_of(rt.alloc(), generate, counts)?;
+        let end = ("Good", printed.as_bytes());
+        expect_end(
+            rt.alloc(),
+            &exercise(line, &[]),
+            end,
+            new_store(rt.alloc())?,
+        )?;
     }
     Ok(())
 }
 
-/// The words, which writes to the output fail, and the status.
-const STATUSES: [(&str, &[u64], &str); 8] = [
-    ("1 3", &[], "Good"),
-    ("1 3", &[1], "OutWrite"),
-    ("1", &[], "Usage"),
-    ("1 3 3", &[], "Usage"),
-    ("01 3", &[], "Usage"),
-    ("2147483648 3", &[], "Usage"),
-    ("1 65001", &[], "Usage"),
-    ("1 3 --schedule 0", &[], "Usage"),
+/// The words, which writes to the output fail, and the status, where nothing is printed.
+static STATUSES: [(&str, &[u64], &str); 7] = [
+    ("exercise store.img 1 3", &[1], "OutWrite"),
+    ("exercise store.img 1", &[], "Usage"),
+    ("exercise store.img 1 3 3", &[], "Usage"),
+    ("exercise store.img 01 3", &[], "Usage"),
+    ("exercise store.img 2147483648 3", &[], "Usage"),
+    ("exercise store.img 1 65001", &[], "Usage"),
+    ("exercise store.img 1 3 --schedule 0", &[], "Usage"),
 ];
 
 #[test]
 fn its_words_and_its_line_have_their_statuses(rt: HostRuntime) -> Result<(), Fail> {
     let alloc = rt.alloc();
-    for (words, failing_writes, status) in &STATUSES {
-        let ran = exercise(alloc, words, failing_writes, new_store(alloc)?)?;
-        assert_eq!(rt; format!(in alloc; "{:?}", ran.status)?.as_str(), *status);
+    for (line, failing_writes, status) in &STATUSES {
+        let call = exercise(line, failing_writes);
+        expect_end(alloc, &call, (status, b""), new_store(alloc)?)?;
     }
     Ok(())
 }
 
 #[test]
 fn a_device_that_fails_has_its_status(rt: HostRuntime) -> Result<(), Fail> {
-    let alloc = rt.alloc();
-    let call = Call {
-        line: "exercise store.img 1 3",
-        script: b"",
-        failing_reads: &[1],
-        failing_writes: &[],
-    };
-    let ran = perform(alloc, &call, FaultDisk::stopping(new_store(alloc)?, 0))?;
-    assert_eq!(rt;
-        format!(in alloc; "{:?}", ran.status)?.as_str(),
-        "Device { at: 0 }"
-    );
-    let unformatted = perform(alloc, &call, MemDisk::new(alloc, 64, 0)?)?;
-    let found = format!(in alloc; "{:?}", unformatted.status)?;
-    assert!(rt; found.starts_with("Image"));
+    let call = exercise("exercise store.img 1 3", &[]);
+    let disk = FaultDisk::stopping(new_store(rt.alloc())?, 0);
+    expect_end(rt.alloc(), &call, ("Device { at: 0 }", b""), disk)?;
     Ok(())
 }

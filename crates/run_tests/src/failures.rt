@@ -1,18 +1,16 @@
 //! What the program says and prints where there is no command, no script or no store, and where the source or the sink
 //! fails.
 
+use crate::calls::{End, expect_end};
 use page_disk::MemDisk;
-use std::alloc::Global;
 use std::test::Fail;
-use test_runs::{Call, Status, expect_printed, perform, run};
+use test_runs::Call;
 use test_stores::store;
-
-/// A call over a store, the status, and what is printed.
-type Case = (Call<'static>, &'static str, &'static [u8]);
 
 const PUTS: &[u8] = b"0 put @0 owner t:1\n0 put @0 owner t:2\n0 put @0 owner t:3\n";
 
-const CASES: [Case; 4] = [
+/// Calls over a store.
+static CASES: [(Call<'static>, End<'static>); 5] = [
     (
         Call {
             line: "",
@@ -20,8 +18,7 @@ const CASES: [Case; 4] = [
             failing_reads: &[],
             failing_writes: &[],
         },
-        "Usage",
-        b"",
+        ("Usage", b""),
     ),
     (
         Call {
@@ -30,8 +27,7 @@ const CASES: [Case; 4] = [
             failing_reads: &[2],
             failing_writes: &[],
         },
-        "ScriptRead",
-        b"",
+        ("ScriptRead", b""),
     ),
     (
         Call {
@@ -40,8 +36,7 @@ const CASES: [Case; 4] = [
             failing_reads: &[],
             failing_writes: &[2],
         },
-        "OutWrite",
-        b"0 0 ok\n",
+        ("OutWrite", b"0 0 ok\n"),
     ),
     (
         Call {
@@ -50,35 +45,63 @@ const CASES: [Case; 4] = [
             failing_reads: &[],
             failing_writes: &[],
         },
-        "Script { line: 2, kind: Form }",
-        b"",
+        ("Script { line: 2, kind: Form }", b""),
+    ),
+    (
+        Call {
+            line: "list store.img",
+            script: b"no script",
+            failing_reads: &[],
+            failing_writes: &[1],
+        },
+        ("OutWrite", b""),
     ),
 ];
 
-/// Expects the status of a call and what it prints.
-fn expect_case(alloc: Global, case: &Case) -> Result<(), Fail> {
-    let (call, status, printed) = case;
-    let ran = perform(alloc, call, store(alloc)?)?;
-    expect_printed(&ran.out, printed)?;
-    let found = format!(in alloc; "{:?}", ran.status)?;
-    if found.as_str() != *status {
-        return Err(Fail::new(found));
-    }
-    Ok(())
-}
-
 #[test]
 fn each_cause_has_its_status(rt: HostRuntime) -> Result<(), Fail> {
-    for case in &CASES {
-        expect_case(rt.alloc(), case)?;
+    for (call, end) in &CASES {
+        expect_end(rt.alloc(), call, *end, store(rt.alloc())?)?;
     }
     Ok(())
 }
 
+/// Calls over a device of so many pages of zeros. The source of the second one fails, since it isn't read.
+static WITHOUT_STORE: [(Call<'static>, u64); 3] = [
+    (
+        Call {
+            line: "run store.img",
+            script: PUTS,
+            failing_reads: &[],
+            failing_writes: &[],
+        },
+        0,
+    ),
+    (
+        Call {
+            line: "exercise store.img 1 3",
+            script: b"",
+            failing_reads: &[1],
+            failing_writes: &[],
+        },
+        64,
+    ),
+    (
+        Call {
+            line: "list store.img",
+            script: b"no script",
+            failing_reads: &[],
+            failing_writes: &[],
+        },
+        64,
+    ),
+];
+
 #[test]
-fn a_script_is_not_run_without_a_store(rt: HostRuntime) -> Result<(), Fail> {
-    let none = MemDisk::new(rt.alloc(), 0, 0)?;
-    let ran = run(rt.alloc(), PUTS, none)?;
-    assert!(rt; matches!(ran.status, Status::Image { .. }));
-    expect_printed(&ran.out, b"")
+fn nothing_is_done_without_a_store(rt: HostRuntime) -> Result<(), Fail> {
+    for (call, pages) in &WITHOUT_STORE {
+        let end = ("Image { fault: Super(BadSignature) }", b"".as_slice());
+        expect_end(rt.alloc(), call, end, MemDisk::new(rt.alloc(), *pages, 0)?)?;
+    }
+    Ok(())
 }

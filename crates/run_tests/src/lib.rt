@@ -4,6 +4,10 @@
 #![tactic(auto)]
 
 #[cfg(test)]
+mod calls;
+#[cfg(test)]
+mod device_pages;
+#[cfg(test)]
 mod exercises;
 #[cfg(test)]
 mod failures;

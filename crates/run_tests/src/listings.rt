@@ -1,16 +1,15 @@
 //! Stores and their volumes, as they are listed.
 
-use crate::formats::format;
-use page_disk::{CallKind, Fail, FaultDisk, MemDisk, PageDisk};
+use crate::calls::{LIST, expect_end, expect_listed};
+use crate::formats::{expect_new_store, failing};
+use page_disk::{CallKind, MemDisk};
 use std::alloc::Global;
-use std::test::Fail as TestFail;
-use test_runs::{Call, Ran, expect_printed, perform, run};
+use std::test::Fail;
+use test_runs::run;
 use test_stores::{LAST, NAMED, PageRow, THICK, THIN, image_with_super, store};
 
 /// A script that is run on a new store, and what is listed behind it.
-type Case = (&'static [u8], &'static [u8]);
-
-const CASES: [Case; 3] = [
+static CASES: [(&[u8], &[u8]); 3] = [
     (
         b"",
         b"store type - cluster 16384 clusters 16 free 11 pages 16 free 16 clean 1\n",
@@ -28,48 +27,16 @@ const CASES: [Case; 3] = [
     ),
 ];
 
-/// What comes of `list IMAGE`, where the writes with these numbers to the output fail.
-fn list<D: PageDisk + Drop + Send>(
-    alloc: Global,
-    failing_writes: &[u64],
-    disk: D,
-) -> Result<Ran<D>, TestFail> {
-    let call = Call {
-        line: "list store.img",
-        script: b"no script",
-        failing_reads: &[],
-        failing_writes,
-    };
-    perform(alloc, &call, disk)
-}
-
-/// Expects the status of a listing.
-fn expect_status<D>(alloc: Global, ran: &Ran<D>, status: &str) -> Result<(), TestFail> {
-    let found = format!(in alloc; "{:?}", ran.status)?;
-    if found.as_str() != status {
-        return Err(TestFail::new(found));
-    }
-    Ok(())
-}
-
-/// Expects what is listed behind the script of a case, and that nothing is written for it.
-fn expect_case(alloc: Global, case: &Case) -> Result<(), TestFail> {
-    let (script, printed) = case;
-    let new = format(alloc, "--cluster 16384", &[], store(alloc)?)?;
-    let disk = run(alloc, script, new.disk)?.disk;
-    let clock = disk.clock();
-    let ran = list(alloc, &[], disk)?;
-    expect_status(alloc, &ran, "Good")?;
-    if ran.disk.clock() != clock {
-        return Err(TestFail::new("it wrote"));
-    }
-    expect_printed(&ran.out, printed)
+/// The device of a new store behind a script.
+fn ran(alloc: Global, script: &[u8]) -> Result<MemDisk, Fail> {
+    let ran = run(alloc, script, expect_new_store(alloc, store(alloc)?)?)?;
+    Ok(ran.disk)
 }
 
 #[test]
-fn volumes_are_listed_by_ascending_head(rt: HostRuntime) -> Result<(), TestFail> {
-    for case in &CASES {
-        expect_case(rt.alloc(), case)?;
+fn volumes_are_listed_by_ascending_head(rt: HostRuntime) -> Result<(), Fail> {
+    for (script, printed) in &CASES {
+        expect_listed(rt.alloc(), printed, ran(rt.alloc(), script)?)?;
     }
     Ok(())
 }
@@ -77,45 +44,28 @@ fn volumes_are_listed_by_ascending_head(rt: HostRuntime) -> Result<(), TestFail>
 /// The name `a b\` and the uuid `-`.
 const ODD: &[u8] = b"\x02\x0D\0\0\0\x04\0\x05\0namea b\\\0\x02\x09\0\0\0\x04\0\x01\0uuid-";
 
-const ROWS: [PageRow; 3] = [
+static ROWS: [PageRow; 3] = [
     (0, 0, 0, LAST, &[THIN, ODD]),
     (1, 1, 0, LAST, &[THICK, NAMED]),
     (2, 2, 0, LAST, &[THICK]),
 ];
 
+/// What is listed of them.
+const LISTED: &[u8] = b"store type - cluster 16384 clusters 16 free 11 pages 16 free 13 clean 1\n\
+    super @1 v 11223344-5566-4788-99aa-bbccddeeff00\n\
+    @0 a\\x20b\\x5c \\x2d slots 0 own 0 parent - thin rw\n\
+    @2 - - slots 0 own 0 parent - thick rw\n";
+
 #[test]
-fn the_super_blob_and_odd_names_are_shown(rt: HostRuntime) -> Result<(), TestFail> {
-    let alloc = rt.alloc();
-    let disk = image_with_super(alloc, (64, 16), (1 << 32) + 1, &ROWS)?;
-    let ran = list(alloc, &[], disk)?;
-    expect_status(alloc, &ran, "Good")?;
-    expect_printed(
-        &ran.out,
-        b"store type - cluster 16384 clusters 16 free 11 pages 16 free 13 clean 1\n\
-            super @1 v 11223344-5566-4788-99aa-bbccddeeff00\n\
-            @0 a\\x20b\\x5c \\x2d slots 0 own 0 parent - thin rw\n\
-            @2 - - slots 0 own 0 parent - thick rw\n",
-    )
+fn the_super_blob_and_odd_names_are_shown(rt: HostRuntime) -> Result<(), Fail> {
+    let disk = image_with_super(rt.alloc(), (64, 16), (1 << 32) + 1, &ROWS)?;
+    expect_listed(rt.alloc(), LISTED, disk)?;
+    Ok(())
 }
 
 #[test]
-fn a_listing_that_fails_says_why(rt: HostRuntime) -> Result<(), TestFail> {
-    let alloc = rt.alloc();
-    let fail = Fail {
-        kind: CallKind::Read,
-        nth: 3,
-    };
-    let ran = list(
-        alloc,
-        &[],
-        FaultDisk::new(store(alloc)?, vec![in alloc; fail]?),
-    )?;
-    expect_status(alloc, &ran, "Device { at: 0 }")?;
-    expect_printed(&ran.out, b"")?;
-    let ran = list(alloc, &[], MemDisk::new(alloc, 64, 0)?)?;
-    expect_status(alloc, &ran, "Image { fault: Super(BadSignature) }")?;
-    expect_printed(&ran.out, b"")?;
-    let ran = list(alloc, &[1], store(alloc)?)?;
-    expect_status(alloc, &ran, "OutWrite")?;
-    expect_printed(&ran.out, b"")
+fn a_device_that_fails_is_not_listed(rt: HostRuntime) -> Result<(), Fail> {
+    let disk = failing(rt.alloc(), CallKind::Read, 3)?;
+    expect_end(rt.alloc(), &LIST, ("Device { at: 0 }", b""), disk)?;
+    Ok(())
 }

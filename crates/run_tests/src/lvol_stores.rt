@@ -1,43 +1,35 @@
 //! New logical volume stores, as an administrator makes them.
 
-use crate::formats::format;
-use page_disk::{MemDisk, PageDisk};
+use crate::calls::{expect_end, expect_listed};
+use crate::device_pages::{BytesRow, expect_bytes};
+use page_disk::MemDisk;
 use std::alloc::Global;
 use std::test::Fail;
-use test_runs::{Call, Ran, expect_printed, perform, play};
+use test_runs::{Call, play};
+use test_stores::is_zeros;
 
 /// A new logical volume store of 16 clusters, with room for the changes of a test.
 fn store(alloc: Global) -> Result<MemDisk, Fail> {
-    let options = "--cluster 16384 --lvol store0 --uuid 5f2b4e66-0d0c-4c1e-9a55-3f0a7c2d9b10";
-    let Ran {
-        status: _,
-        out,
-        disk,
-    } = format(alloc, options, &[], MemDisk::new(alloc, 64, 512)?)?;
-    expect_printed(&out, b"clusters 16 free 11 pages 16 free 15\n")?;
-    Ok(disk)
+    let line =
+        "format store.img --cluster 16384 --lvol store0 --uuid 5f2b4e66-0d0c-4c1e-9a55-3f0a7c2d9b10";
+    let end = ("Good", b"clusters 16 free 11 pages 16 free 15\n".as_slice());
+    expect_end(
+        alloc,
+        &Call::new(line, b""),
+        end,
+        MemDisk::new(alloc, 64, 512)?,
+    )
 }
 
-/// Expects that `list` prints this of a device.
-fn expect_listed(alloc: Global, disk: MemDisk, printed: &[u8]) -> Result<(), Fail> {
-    let call = Call {
-        line: "list store.img",
-        script: b"",
-        failing_reads: &[],
-        failing_writes: &[],
-    };
-    let ran = perform(alloc, &call, disk)?;
-    expect_printed(&ran.out, printed)
-}
+/// What is listed of it.
+const LISTED: &[u8] =
+    b"store type LVOLSTORE cluster 16384 clusters 16 free 11 pages 16 free 15 clean 1\n\
+    super @0 store0 5f2b4e66-0d0c-4c1e-9a55-3f0a7c2d9b10\n";
 
 #[test]
 fn a_store_has_its_name_and_uuid(rt: HostRuntime) -> Result<(), Fail> {
-    expect_listed(
-        rt.alloc(),
-        store(rt.alloc())?,
-        b"store type LVOLSTORE cluster 16384 clusters 16 free 11 pages 16 free 15 clean 1\n\
-        super @0 store0 5f2b4e66-0d0c-4c1e-9a55-3f0a7c2d9b10\n",
-    )
+    expect_listed(rt.alloc(), LISTED, store(rt.alloc())?)?;
+    Ok(())
 }
 
 /// The page of the super blob up to the end of its last descriptor: the blob's id, sequence 0, flags of zeros, the name
@@ -47,21 +39,19 @@ const SUPER_BLOB: &[u8] = b"\0\0\0\0\x01\0\0\0\0\0\0\0\0\0\0\0\
     \x02\x0F\0\0\0\x04\0\x07\0namestore0\0\
     \x02\x2D\0\0\0\x04\0\x25\0uuid5f2b4e66-0d0c-4c1e-9a55-3f0a7c2d9b10\0";
 
+/// That page, which has no next one, and the bits of it in the masks of pages and of blobs.
+static WRITTEN: [BytesRow; 4] = [
+    (4, 0, SUPER_BLOB),
+    (4, 4088, &[0xFF; 4]),
+    (1, 0, &[0, 16, 0, 0, 0, 1, 0, 0]),
+    (3, 0, &[2, 16, 0, 0, 0, 1, 0, 0]),
+];
+
 #[test]
 fn its_super_blob_has_one_page(rt: HostRuntime) -> Result<(), Fail> {
     let mut disk = store(rt.alloc())?;
-    let mut page = [0; 4096];
-    assert!(rt; 5 < disk.pages());
-    disk.read(4, &mut page)?;
-    assert_eq!(rt; page.get(..SUPER_BLOB.len()), Some(SUPER_BLOB));
-    assert_eq!(rt; page.get(4088..4092), Some([0xFF; 4].as_slice()));
-    disk.read(5, &mut page)?;
-    assert_eq!(rt; page, [0; 4096]);
-    disk.read(1, &mut page)?;
-    assert_eq!(rt; page.get(..8), Some([0, 16, 0, 0, 0, 1, 0, 0].as_slice()));
-    disk.read(3, &mut page)?;
-    assert_eq!(rt; page.get(..8), Some([2, 16, 0, 0, 0, 1, 0, 0].as_slice()));
-    Ok(())
+    assert!(rt; is_zeros(&mut disk, 5)?);
+    expect_bytes(&mut disk, &WRITTEN)
 }
 
 #[test]

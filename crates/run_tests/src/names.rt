@@ -3,7 +3,7 @@
 use std::test::Fail;
 use test_runs::{On, TwoRuns, expect_two_runs};
 
-const CASES: [TwoRuns; 6] = [
+static CASES: [TwoRuns; 6] = [
     // The name is another at once and in a later run. What is pending stays so, and is lost with the run.
     (
         On::Empty,

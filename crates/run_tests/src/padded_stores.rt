@@ -1,10 +1,11 @@
 //! Logical volume stores of another maker, whose names are padded with NULs to 64 bytes.
 
-use crc32c::sum;
-use page_disk::{MemDisk, Page, PageDisk, WriteKind};
+use crate::calls::expect_listed;
+use crate::device_pages::patch_super;
+use page_disk::MemDisk;
 use std::alloc::Global;
 use std::test::Fail;
-use test_runs::{Call, expect_printed, perform, play};
+use test_runs::play;
 use test_stores::{LAST, PageRow, THICK, image_with_super};
 
 /// What begins an attribute `name` whose value has 64 bytes.
@@ -56,14 +57,14 @@ const V_PADDED: &[&[u8]] = &[CHILD, PADDED, V, NULS, V_UUID, PARENT, ONE_CLUSTER
 const S_PADDED: &[&[u8]] = &[KEPT, PADDED, S, NULS, S_UUID, NO_CLUSTER];
 
 /// The super blob, and a volume whose parent is a snapshot: their names have 64 bytes.
-const PADDED_ROWS: [PageRow; 3] = [
+static PADDED_ROWS: [PageRow; 3] = [
     (0, 0, 0, LAST, SUPER_PADDED),
     (1, 1, 0, LAST, V_PADDED),
     (2, 2, 0, LAST, S_PADDED),
 ];
 
 /// The same with one NUL behind each name.
-const PLAIN_ROWS: [PageRow; 3] = [
+static PLAIN_ROWS: [PageRow; 3] = [
     (0, 0, 0, LAST, &[THICK, PLAIN_STORE, STORE_UUID]),
     (
         1,
@@ -82,28 +83,6 @@ const LISTED: &[u8] =
     @1 v 5f2b4e66-0d0c-4c1e-9a55-3f0a7c2d9b11 slots 2 own 1 parent @2 thin rw\n\
     @2 s 5f2b4e66-0d0c-4c1e-9a55-3f0a7c2d9b12 slots 2 own 0 parent - thin ro\n";
 
-/// Puts bytes into a page.
-fn put(page: &mut Page, at: usize, bytes: &[u8]) {
-    for (place, byte) in page.iter_mut().skip(at).zip(bytes.iter()) {
-        *place = *byte;
-    }
-}
-
-/// Puts bytes into the super block of a device, and its checksum, and flushes.
-pub(crate) fn patch_super(disk: &mut MemDisk, at: usize, bytes: &[u8]) -> Result<(), Fail> {
-    if disk.pages() == 0 {
-        return Err(Fail::new("the device has no page"));
-    }
-    let mut page: Page = [0; 4096];
-    disk.read(0, &mut page)?;
-    put(&mut page, at, bytes);
-    let checksum = sum(page.get(..4092).ok_or("no such bytes")?);
-    put(&mut page, 4092, &checksum.to_le_bytes());
-    disk.write(0, &page, WriteKind::Whole)?;
-    disk.flush()?;
-    Ok(())
-}
-
 /// A logical volume store with these blobs, whose super block tells this size of an I/O unit.
 fn store(alloc: Global, rows: &[PageRow], io_unit_size: u32) -> Result<MemDisk, Fail> {
     let mut disk = image_with_super(alloc, (64, 16), 1 << 32, rows)?;
@@ -112,24 +91,18 @@ fn store(alloc: Global, rows: &[PageRow], io_unit_size: u32) -> Result<MemDisk, 
     Ok(disk)
 }
 
+/// A script of their names, and what is printed of it.
+const NAMES: &[u8] =
+    b"0 create v 1 thin\n0 info s\n0 info store0\n0 rename v s\n0 rename v store0\n0 list\n";
+
+const ANSWERS: &[u8] =
+    b"0 0 name taken\n0 1 volume @2 s slots 2 parent - thin ro xattrs 2\n0 2 no volume\n0 3 name taken\n0 4 ok\n\
+    0 5 list 2\nvolume @1 store0 slots 2 parent @2 thin rw xattrs 2\n\
+    volume @2 s slots 2 parent - thin ro xattrs 2\n";
+
 /// Expects what is listed of a store, and which names its volumes have in a script.
-fn expect_listed(alloc: Global, disk: MemDisk) -> Result<(), Fail> {
-    let call = Call {
-        line: "list store.img",
-        script: b"",
-        failing_reads: &[],
-        failing_writes: &[],
-    };
-    let ran = perform(alloc, &call, disk)?;
-    expect_printed(&ran.out, LISTED)?;
-    play(
-        alloc,
-        b"0 create v 1 thin\n0 info s\n0 info store0\n0 rename v s\n0 rename v store0\n0 list\n",
-        b"0 0 name taken\n0 1 volume @2 s slots 2 parent - thin ro xattrs 2\n0 2 no volume\n0 3 name taken\n0 4 ok\n\
-            0 5 list 2\nvolume @1 store0 slots 2 parent @2 thin rw xattrs 2\n\
-            volume @2 s slots 2 parent - thin ro xattrs 2\n",
-        ran.disk,
-    )?;
+fn expect_names(alloc: Global, disk: MemDisk) -> Result<(), Fail> {
+    play(alloc, NAMES, ANSWERS, expect_listed(alloc, LISTED, disk)?)?;
     Ok(())
 }
 
@@ -137,8 +110,8 @@ fn expect_listed(alloc: Global, disk: MemDisk) -> Result<(), Fail> {
 fn padded_names_and_another_io_unit_list_the_same_volumes(rt: HostRuntime) -> Result<(), Fail> {
     let alloc = rt.alloc();
     for io_unit_size in [4096u32, 512] {
-        expect_listed(alloc, store(alloc, &PLAIN_ROWS, io_unit_size)?)?;
-        expect_listed(alloc, store(alloc, &PADDED_ROWS, io_unit_size)?)?;
+        expect_names(alloc, store(alloc, &PLAIN_ROWS, io_unit_size)?)?;
+        expect_names(alloc, store(alloc, &PADDED_ROWS, io_unit_size)?)?;
     }
     Ok(())
 }

@@ -1,9 +1,10 @@
 //! Calls of the device that fail where pages are written and read.
 
+use crate::calls::expect_end;
 use page_disk::{CallKind, Fail, FaultDisk, MemDisk};
 use std::alloc::Global;
 use std::test::Fail as TestFail;
-use test_runs::{Ran, Status, expect_printed, play, run};
+use test_runs::{Call, play};
 use test_stores::image;
 
 /// A store whose volume `v` has two slots: thin ones, or thick ones.
@@ -11,15 +12,15 @@ fn two_slots(alloc: Global, create: &[u8]) -> Result<MemDisk, TestFail> {
     play(alloc, create, b"0 0 ok @0\n", image(alloc, (64, 16), &[])?)
 }
 
-/// What comes of a script on such a store, where this call of the device fails.
-fn run_failing(
+/// Such a store, of which this call of the device fails.
+fn failing(
     alloc: Global,
     create: &[u8],
-    script: &[u8],
-    fail: Fail,
-) -> Result<Ran<FaultDisk<MemDisk>>, TestFail> {
-    let disk = FaultDisk::new(two_slots(alloc, create)?, vec![in alloc; fail]?);
-    run(alloc, script, disk)
+    kind: CallKind,
+    nth: u64,
+) -> Result<FaultDisk<MemDisk>, TestFail> {
+    let fail = Fail { kind, nth };
+    Ok(FaultDisk::new(two_slots(alloc, create)?, vec![in alloc; fail]?))
 }
 
 /// The page 4 isn't written.
@@ -37,7 +38,7 @@ const ENTRIES: u32 = 6;
 /// flush before, of the super block that says that the store is in use. So the first has the writes 1 to 7 and the
 /// flushes 1 to 5, the second the write 8, the third the writes 9 to 14 and the flushes 6 to 8, and then comes the
 /// flush 9.
-const FAILED_CALLS: [(CallKind, u64, u32, u32); 19] = [
+static FAILED_CALLS: [(CallKind, u64, u32, u32); 19] = [
     (CallKind::Write, 1, 0, 11),
     (CallKind::Write, 4, 0, 11),
     (CallKind::Flush, 1, 0, 11),
@@ -59,53 +60,56 @@ const FAILED_CALLS: [(CallKind, u64, u32, u32); 19] = [
     (CallKind::Flush, 9, 3, 9),
 ];
 
-/// What is printed where so many commands are done, and the next one meets a call that fails: it is told that, and all
-/// later ones that the store has stopped there.
+/// The answer to a command where so many are done, and the next one meets a call that fails: that one is told it, and
+/// all later ones that the store has stopped there.
+fn answer(alloc: Global, index: u32, done: u32) -> Result<String, TestFail> {
+    if index > done {
+        return Ok(format!(in alloc; "0 {index} stopped {done}\n")?);
+    }
+    let word = if index < done { "ok" } else { "fault" };
+    Ok(format!(in alloc; "0 {index} {word}\n")?)
+}
+
+/// What is printed where so many commands are done.
 fn told(alloc: Global, done: u32) -> Result<Vec<u8>, TestFail> {
     let mut lines = Vec::new(alloc);
     for index in 0..ENTRIES {
-        let line = if index < done {
-            format!(in alloc; "0 {index} ok\n")?
-        } else if index == done {
-            format!(in alloc; "0 {index} fault\n")?
-        } else {
-            format!(in alloc; "0 {index} stopped {done}\n")?
-        };
-        lines.extend_from_slice(line.as_bytes())?;
+        lines.extend_from_slice(answer(alloc, index, done)?.as_bytes())?;
     }
     Ok(lines)
 }
 
-/// Expects that the command that meets a failed call tells it, and that a later run finds no cluster lost.
-fn expect_stop(alloc: Global, fail: Fail, done: u32, clear: u32) -> Result<(), TestFail> {
-    let Ran { status, out, disk } = run_failing(alloc, b"0 create v 2 thin\n", WRITES, fail)?;
-    if !matches!(status, Status::Device { at } if at == done) {
-        return Err(TestFail::new(format_args!("with {fail:?} it ended as {status:?}")));
-    }
-    expect_printed(&out, &told(alloc, done)?)?;
+/// The device after a run of the writes of which so many are done, and the next one meets a call that fails.
+fn stopped(alloc: Global, done: u32, disk: FaultDisk<MemDisk>) -> Result<MemDisk, TestFail> {
+    let status = format!(in alloc; "Device {{ at: {done} }}")?;
+    let printed = told(alloc, done)?;
+    let end = (status.as_str(), printed.as_slice());
+    let disk = expect_end(alloc, &Call::new("run store.img", WRITES), end, disk)?;
+    Ok(disk.into_inner())
+}
+
+/// Expects that a later run finds so many clusters clear.
+fn expect_clear(alloc: Global, clear: u32, disk: MemDisk) -> Result<(), TestFail> {
     let found = format!(in alloc;
         "0 0 page fill 0000000000000000\n0 1 df clusters {clear} of 16 pages 15 of 16\n"
     )?;
-    play(
-        alloc,
-        b"0 read v 4 1\n0 df\n",
-        found.as_bytes(),
-        disk.into_inner(),
-    )?;
+    play(alloc, b"0 read v 4 1\n0 df\n", found.as_bytes(), disk)?;
     Ok(())
 }
 
+/// The command that meets a failed call tells it, and a later run finds no cluster lost.
 #[test]
 fn a_failed_write_or_flush_stops_the_store(rt: HostRuntime) -> Result<(), TestFail> {
-    for (kind, nth, done, clear) in FAILED_CALLS {
-        expect_stop(rt.alloc(), Fail { kind, nth }, done, clear)?;
+    for (kind, nth, done, clear) in &FAILED_CALLS {
+        let disk = failing(rt.alloc(), b"0 create v 2 thin\n", *kind, *nth)?;
+        expect_clear(rt.alloc(), *clear, stopped(rt.alloc(), *done, disk)?)?;
     }
     Ok(())
 }
 
-/// A read of the device that fails, by its number, and what is printed of a script. Loading reads the super block, a page
-/// of each mask, and a chain of one page. Where a mask can't be read the store is scanned.
-const FAILED_READS: [(u64, &[u8]); 4] = [
+/// A read of the device that fails, by its number, and what is printed of a script. Loading reads the super block, a
+/// page of each mask, and a chain of one page. Where a mask can't be read the store is scanned.
+static FAILED_READS: [(u64, &[u8]); 4] = [
     (
         3,
         b"0 0 ok\n0 1 ok\n0 2 page fill 0000000000000007\n0 3 page fill 0000000000000008\n0 4 ok\n\
@@ -128,31 +132,22 @@ const FAILED_READS: [(u64, &[u8]); 4] = [
     ),
 ];
 
-/// Expects what is printed where this read of the device fails, and that the run ends well.
-fn expect_read_fault(alloc: Global, nth: u64, printed: &[u8]) -> Result<(), TestFail> {
-    let script = b"0 write v 0 2 7\n0 read v 0 2\n0 write v 0 1 9\n0 read v 0 1\n0 put v k t:1\n";
-    let fail = Fail {
-        kind: CallKind::Read,
-        nth,
-    };
-    let Ran { status, out, disk } = run_failing(alloc, b"0 create v 2 thick\n", script, fail)?;
-    if !matches!(status, Status::Good) {
-        return Err(TestFail::new(format_args!("with {fail:?} it ended as {status:?}")));
-    }
-    expect_printed(&out, printed)?;
-    play(
-        alloc,
-        b"0 read v 0 1\n",
-        b"0 0 page fill 0000000000000009\n",
-        disk.into_inner(),
-    )?;
+const SCRIPT: &[u8] =
+    b"0 write v 0 2 7\n0 read v 0 2\n0 write v 0 1 9\n0 read v 0 1\n0 put v k t:1\n";
+
+/// Expects what is printed of the script, that the run ends well, and that a later one reads what it wrote.
+fn expect_run(alloc: Global, printed: &[u8], disk: FaultDisk<MemDisk>) -> Result<(), TestFail> {
+    let disk = play(alloc, SCRIPT, printed, disk)?.into_inner();
+    let found = b"0 0 page fill 0000000000000009\n";
+    play(alloc, b"0 read v 0 1\n", found, disk)?;
     Ok(())
 }
 
 #[test]
 fn a_failed_read_ends_its_command_alone(rt: HostRuntime) -> Result<(), TestFail> {
-    for (nth, printed) in FAILED_READS {
-        expect_read_fault(rt.alloc(), nth, printed)?;
+    for (nth, printed) in &FAILED_READS {
+        let disk = failing(rt.alloc(), b"0 create v 2 thick\n", CallKind::Read, *nth)?;
+        expect_run(rt.alloc(), printed, disk)?;
     }
     Ok(())
 }

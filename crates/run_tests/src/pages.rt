@@ -1,13 +1,14 @@
 //! Pages of volumes that are read, and flushes.
 
-use page_disk::{MemDisk, Page, PageDisk, WriteKind};
+use crate::device_pages::put_page;
+use page_disk::{MemDisk, Page};
 use std::alloc::Global;
 use std::test::Fail;
 use test_runs::play;
 use test_stores::volume;
 
 /// 512 copies of the eight little-endian bytes of a word below 256.
-fn filled(byte: u8) -> Page {
+pub(crate) fn filled(byte: u8) -> Page {
     let mut page = [0; 4096];
     for (at, place) in page.iter_mut().enumerate() {
         if at % 8 == 0 {
@@ -30,11 +31,8 @@ fn counted() -> Page {
 /// sevens and one of counted bytes.
 fn disk(alloc: Global) -> Result<MemDisk, Fail> {
     let mut disk = volume(alloc, 16)?;
-    if disk.pages() > 29 {
-        disk.write(28, &filled(7), WriteKind::Whole)?;
-        disk.write(29, &counted(), WriteKind::Whole)?;
-    }
-    disk.flush()?;
+    put_page(&mut disk, 28, &filled(7))?;
+    put_page(&mut disk, 29, &counted())?;
     Ok(disk)
 }
 
@@ -54,12 +52,14 @@ fn pages_are_read_through_maps(rt: HostRuntime) -> Result<(), Fail> {
     Ok(())
 }
 
+const CREATE: &[u8] = b"0 create t 2 thin\n0 read t 7 1\n0 read t 6 2\n0 read t 8 1\n";
+
+const CREATED: &[u8] =
+    b"0 0 ok @3\n0 1 page fill 0000000000000000\n0 2 page fill 0000000000000000\n\
+    0 3 page fill 0000000000000000\n0 4 out of range\n";
+
 #[test]
 fn an_empty_slot_reads_as_zeros(rt: HostRuntime) -> Result<(), Fail> {
-    let script = b"0 create t 2 thin\n0 read t 7 1\n0 read t 6 2\n0 read t 8 1\n".as_slice();
-    let printed = b"0 0 ok @3\n0 1 page fill 0000000000000000\n0 2 page fill 0000000000000000\n\
-        0 3 page fill 0000000000000000\n0 4 out of range\n"
-        .as_slice();
-    play(rt.alloc(), script, printed, disk(rt.alloc())?)?;
+    play(rt.alloc(), CREATE, CREATED, disk(rt.alloc())?)?;
     Ok(())
 }

@@ -1,6 +1,7 @@
 //! Stores that are loaded by their masks, and clean ones that aren't.
 
-use page_disk::{CallKind, FaultDisk, MemDisk, PageDisk, WriteKind};
+use crate::device_pages::patch;
+use page_disk::{CallKind, FaultDisk, MemDisk};
 use running_store::Loaded;
 use std::alloc::Global;
 use std::test::Fail;
@@ -29,17 +30,12 @@ fn loaded(alloc: Global, disk: MemDisk) -> Result<(bool, u64), LoadFault> {
     }
 }
 
-/// Makes a byte of a page of a device another one.
-fn patch(disk: &mut MemDisk, page: u64, at: usize, byte: u8) -> Result<(), Fail> {
-    let mut content = [0; 4096];
-    if page >= disk.pages() {
-        return Err(Fail::new(format_args!("the device has no page {page}")));
+/// Expects what a load of a device comes to, as it is shown, or fails.
+fn expect_load(alloc: Global, disk: MemDisk, wanted: &str) -> Result<(), Fail> {
+    let found = format!(in alloc; "{:?}", loaded(alloc, disk))?;
+    if found.as_str() != wanted {
+        return Err(Fail::new(found));
     }
-    disk.read(page, &mut content)?;
-    let place = content.get_mut(at).ok_or("the page has no such byte")?;
-    *place = byte;
-    disk.write(page, &content, WriteKind::Whole)?;
-    disk.flush()?;
     Ok(())
 }
 
@@ -54,53 +50,38 @@ fn written(alloc: Global) -> Result<MemDisk, Fail> {
     )
 }
 
+/// Its device, of which a byte of a page is another one.
+fn patched(alloc: Global, page: u64, at: usize, byte: u8) -> Result<MemDisk, Fail> {
+    let mut disk = written(alloc)?;
+    patch(&mut disk, page, at, &[byte])?;
+    Ok(disk)
+}
+
 /// The super block, three masks, and the one metadata page that is used.
 #[test]
 fn a_clean_store_is_loaded_by_its_masks(rt: HostRuntime) -> Result<(), Fail> {
-    let Ok(found) = loaded(rt.alloc(), written(rt.alloc())?) else {
-        return Err(Fail::new("the store is not loaded"));
-    };
-    assert_eq!(rt; found, (true, 5));
-    Ok(())
+    expect_load(rt.alloc(), written(rt.alloc())?, "Ok((true, 5))")
 }
 
-/// Behind the masks each of 16 metadata pages is read, and the one head of them once more, as at first for its mask. A
-/// run marks the store, and writes its masks anew.
+/// Behind the masks each of 16 metadata pages is read, and the one head of them once more, as at first for its mask.
+#[test]
+fn a_store_with_a_cluster_too_many_in_its_mask_is_scanned(rt: HostRuntime) -> Result<(), Fail> {
+    let disk = patched(rt.alloc(), 2, 5, 0b0111_1111)?;
+    expect_load(rt.alloc(), disk, "Ok((false, 22))")
+}
+
+/// A run marks the store, and writes its masks anew.
 #[test]
 fn a_mask_with_a_cluster_too_many_is_written_anew(rt: HostRuntime) -> Result<(), Fail> {
-    let alloc = rt.alloc();
-    let mut disk = written(alloc)?;
-    patch(&mut disk, 2, 5, 0b0111_1111)?;
-    let Ok(found) = loaded(alloc, disk.crash(0)?) else {
-        return Err(Fail::new("the store is not loaded"));
-    };
-    assert_eq!(rt; found, (false, 22));
-    let disk = play(
-        alloc,
-        b"0 df\n",
-        b"0 0 df clusters 10 of 16 pages 15 of 16\n",
-        disk,
-    )?;
-    let Ok(found) = loaded(alloc, disk) else {
-        return Err(Fail::new("the store is not loaded"));
-    };
-    assert_eq!(rt; found, (true, 5));
-    Ok(())
+    let disk = patched(rt.alloc(), 2, 5, 0b0111_1111)?;
+    let printed = b"0 0 df clusters 10 of 16 pages 15 of 16\n";
+    let disk = play(rt.alloc(), b"0 df\n", printed, disk)?;
+    expect_load(rt.alloc(), disk, "Ok((true, 5))")
 }
 
 /// A byte of the one head's page is another: where the store is clean its mask says that a blob is there.
 #[test]
 fn a_head_that_its_mask_names_is_missed(rt: HostRuntime) -> Result<(), Fail> {
-    let alloc = rt.alloc();
-    let mut disk = written(alloc)?;
-    patch(&mut disk, 4, 100, 1)?;
-    let Err(fault) = loaded(alloc, disk) else {
-        return Err(Fail::new("the store is loaded"));
-    };
-    let told = format!(in alloc; "{fault:?}")?;
-    assert_eq!(rt;
-        told.as_str(),
-        "Chain { head: 0, fault: Unsound { page: 0 } }"
-    );
-    Ok(())
+    let wanted = "Err(Chain { head: 0, fault: Unsound { page: 0 } })";
+    expect_load(rt.alloc(), patched(rt.alloc(), 4, 100, 1)?, wanted)
 }

@@ -1,13 +1,13 @@
 //! Thick volumes, volumes that get another number of slots, and how much is clear then.
 
-use crate::formats::format;
+use crate::formats::expect_new_store;
 use page_disk::MemDisk;
 use std::alloc::Global;
 use std::test::Fail;
 use test_runs::{On, TwoRuns, expect_two_runs, play};
 use test_stores::{LAST, PageRow, THIN, fill, image, is_zeros};
 
-const CASES: [TwoRuns; 10] = [
+static CASES: [TwoRuns; 10] = [
     // A thick volume takes its clusters when it is made: all that are clear, but not one more.
     (
         On::Empty,
@@ -114,49 +114,54 @@ const ONE_LESS: &[u8] = b"\x01\x08\0\0\0\0\0\0\0\xFF\xFF\x0F\0";
 
 /// A store of 17 metadata pages, whose sixteen thin blobs have together a slot less than there may be, 2^24.
 fn nearly_most(alloc: Global) -> Result<MemDisk, Fail> {
-    let first: PageRow = (0, 0, 0, LAST, &[THIN, ONE_LESS]);
-    let mut rows = vec![in alloc; first]?;
-    for place in 1..16 {
-        let row: PageRow = (place, place, 0, LAST, &[THIN, MOST]);
-        rows.push(row)?;
+    let mut rows: Vec<PageRow> = Vec::new(alloc);
+    for place in 0..16 {
+        let parts: &'static [&'static [u8]] = if place == 0 {
+            &[THIN, ONE_LESS]
+        } else {
+            &[THIN, MOST]
+        };
+        rows.push((place, place, 0, LAST, parts))?;
     }
     image(alloc, (64, 17), &rows)
 }
 
+const TOO_LARGE: &[u8] =
+    b"0 create q 2 thin\n0 create q 1 thin\n0 resize q 2\n0 resize @0 1048576\n\
+    0 resize @1 1048575\n0 resize q 2\n0 resize q 3\n";
+
+const TOLD: &[u8] =
+    b"0 0 too large\n0 1 ok @16\n0 2 too large\n0 3 too large\n0 4 ok\n0 5 ok\n0 6 too large\n";
+
 #[test]
 fn slots_together_have_a_limit(rt: HostRuntime) -> Result<(), Fail> {
-    let script = b"0 create q 2 thin\n0 create q 1 thin\n0 resize q 2\n0 resize @0 1048576\n\
-        0 resize @1 1048575\n0 resize q 2\n0 resize q 3\n"
-        .as_slice();
-    let printed =
-        b"0 0 too large\n0 1 ok @16\n0 2 too large\n0 3 too large\n0 4 ok\n0 5 ok\n0 6 too large\n".as_slice();
-    play(rt.alloc(), script, printed, nearly_most(rt.alloc())?)?;
+    play(rt.alloc(), TOO_LARGE, TOLD, nearly_most(rt.alloc())?)?;
     Ok(())
 }
 
-/// A new store on a device that had other bytes than zeros in each page before.
-fn store_on_used(alloc: Global) -> Result<MemDisk, Fail> {
+/// A device that has other bytes than zeros in each page.
+fn used(alloc: Global) -> Result<MemDisk, Fail> {
     let mut disk = MemDisk::new(alloc, 64, 256)?;
     fill(&mut disk, 0, 64)?;
-    let ran = format(alloc, "--cluster 16384", &[], disk)?;
-    Ok(ran.disk)
+    Ok(disk)
 }
+
+/// A thick volume of two slots on such a device, with a new store.
+fn with_thick(alloc: Global) -> Result<MemDisk, Fail> {
+    let disk = expect_new_store(alloc, used(alloc)?)?;
+    play(alloc, b"0 create v 2 thick\n", b"0 0 ok @0\n", disk)
+}
+
+/// Pages of the volume, and what is read of them.
+const LOOK: &[u8] = b"0 read v 0 2\n0 read v 6 3\n";
+
+const ZEROS: &[u8] = b"0 0 page fill 0000000000000000\n0 1 page fill 0000000000000000\n\
+    0 2 page fill 0000000000000000\n0 3 page fill 0000000000000000\n0 4 out of range\n";
 
 /// The first two clusters that aren't fixed, the pages 20 to 27, are those of the volume.
 #[test]
 fn claimed_clusters_are_zeroed(rt: HostRuntime) -> Result<(), Fail> {
-    let alloc = rt.alloc();
-    let disk = play(
-        alloc,
-        b"0 create v 2 thick\n",
-        b"0 0 ok @0\n",
-        store_on_used(alloc)?,
-    )?;
-    let look = b"0 read v 0 2\n0 read v 6 3\n".as_slice();
-    let found = b"0 0 page fill 0000000000000000\n0 1 page fill 0000000000000000\n\
-        0 2 page fill 0000000000000000\n0 3 page fill 0000000000000000\n0 4 out of range\n"
-        .as_slice();
-    let mut disk = play(alloc, look, found, disk)?;
+    let mut disk = play(rt.alloc(), LOOK, ZEROS, with_thick(rt.alloc())?)?;
     for at in 20..32 {
         assert_eq!(rt; is_zeros(&mut disk, at)?, at < 28);
     }

@@ -1,17 +1,18 @@
 //! The five verbs on attributes: what each answers, and what a later run finds.
 
-use page_disk::PageDisk;
+use crate::device_pages::{BytesRow, expect_bytes};
+use page_disk::MemDisk;
 use std::alloc::Global;
 use std::test::Fail;
 use test_lines::push_long;
 use test_runs::play;
-use test_stores::{LAST, READ_ONLY, image, store, two_blobs};
+use test_stores::{LAST, PageRow, READ_ONLY, THICK, image, store, two_blobs};
 
-/// A script, what it prints, and what a later run prints of `0 getx @0 k`, where the blob has `k` with the value 1 on
-/// the disk before.
+/// A script, what it prints, and what a later run prints of a look.
 type Case = (&'static [u8], &'static [u8], &'static [u8]);
 
-const CASES: [Case; 11] = [
+/// Of the look `0 getx @0 k`, where the blob has `k` with the value 1 on the disk before.
+static CASES: [Case; 11] = [
     (
         b"0 setx @0 k t:2\n0 getx @0 k\n",
         b"0 0 ok\n0 1 value 32\n",
@@ -70,26 +71,29 @@ const CASES: [Case; 11] = [
 ];
 
 /// Runs the script of a case, and expects what it prints and what a later run finds.
-fn expect_case(alloc: Global, case: &Case) -> Result<(), Fail> {
+fn expect_case(alloc: Global, disk: MemDisk, look: &[u8], case: &Case) -> Result<(), Fail> {
     let (script, printed, found) = case;
-    let disk = play(alloc, b"0 put @0 k t:1\n", b"0 0 ok\n", store(alloc)?)?;
     let disk = play(alloc, script, printed, disk)?;
-    play(alloc, b"0 getx @0 k\n", found, disk)?;
+    play(alloc, look, found, disk)?;
     Ok(())
+}
+
+/// A blob that has `k` with the value 1 on the disk.
+fn with_value(alloc: Global) -> Result<MemDisk, Fail> {
+    play(alloc, b"0 put @0 k t:1\n", b"0 0 ok\n", store(alloc)?)
 }
 
 /// Only a put and a sync bring attributes to the disk: all that are set.
 #[test]
 fn each_verb_has_its_answer_and_its_trace(rt: HostRuntime) -> Result<(), Fail> {
     for case in &CASES {
-        expect_case(rt.alloc(), case)?;
+        expect_case(rt.alloc(), with_value(rt.alloc())?, b"0 getx @0 k\n", case)?;
     }
     Ok(())
 }
 
-/// A script, what it prints, and what a later run prints of two looks, where both blobs have `k` with the value 1 on
-/// the disk before.
-const OF_TWO: [Case; 3] = [
+/// Of two looks, where both blobs have `k` with the value 1 on the disk before.
+static OF_TWO: [Case; 3] = [
     (
         b"0 setx @0 k t:2\n0 put @1 k t:3\n0 getx @0 k\n",
         b"0 0 ok\n0 1 ok\n0 2 value 32\n",
@@ -107,34 +111,44 @@ const OF_TWO: [Case; 3] = [
     ),
 ];
 
-/// Runs the script of a case on two blobs, and expects what it prints and what a later run finds.
-fn expect_case_of_two(alloc: Global, case: &Case) -> Result<(), Fail> {
-    let (script, printed, found) = case;
-    let begin = b"0 put @0 k t:1\n0 put @1 k t:1\n";
-    let disk = play(alloc, begin, b"0 0 ok\n0 1 ok\n", two_blobs(alloc)?)?;
-    let disk = play(alloc, script, printed, disk)?;
-    play(alloc, b"0 getx @0 k\n0 getx @1 k\n", found, disk)?;
-    Ok(())
+/// Two blobs that have `k` with the value 1 on the disk.
+fn with_two_values(alloc: Global) -> Result<MemDisk, Fail> {
+    let puts = b"0 put @0 k t:1\n0 put @1 k t:1\n";
+    play(alloc, puts, b"0 0 ok\n0 1 ok\n", two_blobs(alloc)?)
 }
 
 /// What one blob has set stays in memory when the other is written.
 #[test]
 fn a_put_brings_only_its_own_blob_to_the_disk(rt: HostRuntime) -> Result<(), Fail> {
+    let looks = b"0 getx @0 k\n0 getx @1 k\n";
     for case in &OF_TWO {
-        expect_case_of_two(rt.alloc(), case)?;
+        expect_case(rt.alloc(), with_two_values(rt.alloc())?, looks, case)?;
     }
     Ok(())
 }
 
+/// The flags of the blob at place 0, a script, and what it prints.
+static PUTS: [(&[&[u8]], &[u8], &[u8]); 3] = [
+    (&[THICK], b"", b""),
+    (
+        &[THICK],
+        b"0 put @1 owner t:bob\n0 put @0 name t:x\n0 put @0 owner t:bob",
+        b"0 0 no volume\n0 1 reserved\n0 2 ok\n",
+    ),
+    (&[READ_ONLY], b"0 put @0 owner t:bob\n", b"0 0 read only\n"),
+];
+
 #[test]
 fn each_put_is_answered(rt: HostRuntime) -> Result<(), Fail> {
-    let alloc = rt.alloc();
-    play(alloc, b"", b"", store(alloc)?)?;
-    let script = b"0 put @1 owner t:bob\n0 put @0 name t:x\n0 put @0 owner t:bob";
-    let printed = b"0 0 no volume\n0 1 reserved\n0 2 ok\n";
-    play(alloc, script, printed, store(alloc)?)?;
-    let disk = image(alloc, (64, 16), &[(0, 0, 0, LAST, &[READ_ONLY])])?;
-    play(alloc, b"0 put @0 owner t:bob\n", b"0 0 read only\n", disk)?;
+    for (flags, script, printed) in &PUTS {
+        let row: PageRow = (0, 0, 0, LAST, flags);
+        play(
+            rt.alloc(),
+            script,
+            printed,
+            image(rt.alloc(), (64, 16), &[row])?,
+        )?;
+    }
     Ok(())
 }
 
@@ -147,30 +161,29 @@ fn long_puts(alloc: Global, length: usize) -> Result<Vec<u8>, Fail> {
 }
 
 /// Two values that don't fit on one page together may be put; one that fits on no page with its key is too long.
+static LENGTHS: [(usize, &[u8]); 2] = [
+    (4000, b"0 0 ok\n0 1 ok\n"),
+    (4062, b"0 0 too long\n0 1 too long\n"),
+];
+
 #[test]
 fn a_value_has_a_page_of_its_own_at_most(rt: HostRuntime) -> Result<(), Fail> {
-    let alloc = rt.alloc();
-    play(
-        alloc,
-        &long_puts(alloc, 4000)?,
-        b"0 0 ok\n0 1 ok\n",
-        store(alloc)?,
-    )?;
-    let too_long = b"0 0 too long\n0 1 too long\n";
-    play(alloc, &long_puts(alloc, 4062)?, too_long, store(alloc)?)?;
+    for (length, printed) in &LENGTHS {
+        let script = long_puts(rt.alloc(), *length)?;
+        play(rt.alloc(), &script, printed, store(rt.alloc())?)?;
+    }
     Ok(())
 }
 
+/// The first bytes of the head's flags, and the attribute behind them.
+static OWNER: [BytesRow; 2] = [
+    (4, 16, b"\x03\x18\0\0\0"),
+    (4, 45, b"\x02\x0c\0\0\0\x05\0\x03\0ownerbob\0"),
+];
+
 #[test]
 fn the_head_holds_the_attribute_last_put(rt: HostRuntime) -> Result<(), Fail> {
-    let alloc = rt.alloc();
     let script = b"0 put @0 owner t:eve\n0 put @0 owner t:bob\n";
-    let mut disk = play(alloc, script, b"0 0 ok\n0 1 ok\n", store(alloc)?)?;
-    let mut page = [0; 4096];
-    assert!(rt; 4 < disk.pages());
-    disk.read(4, &mut page)?;
-    assert_eq!(rt; &page[16..21], b"\x03\x18\0\0\0".as_slice());
-    let owner = b"\x02\x0c\0\0\0\x05\0\x03\0ownerbob\0";
-    assert_eq!(rt; &page[45..63], owner.as_slice());
-    Ok(())
+    let mut disk = play(rt.alloc(), script, b"0 0 ok\n0 1 ok\n", store(rt.alloc())?)?;
+    expect_bytes(&mut disk, &OWNER)
 }

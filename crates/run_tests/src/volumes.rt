@@ -3,7 +3,7 @@
 use std::test::Fail;
 use test_runs::{On, TwoRuns, expect_two_runs};
 
-const CASES: [TwoRuns; 10] = [
+static CASES: [TwoRuns; 10] = [
     // A thin volume takes a page and no cluster.
     (
         On::Empty,

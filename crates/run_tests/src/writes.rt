@@ -1,12 +1,14 @@
 //! Pages of volumes that are written: in place, or into a cluster that an empty slot gets.
 
-use page_disk::{MemDisk, Page, PageDisk, WriteKind};
+use crate::device_pages::put_page;
+use crate::pages::filled;
+use page_disk::{MemDisk, Page};
 use std::alloc::Global;
 use std::test::Fail;
 use test_runs::{On, TwoRuns, expect_two_runs, play};
 use test_stores::{LAST, PageRow, READ_ONLY, image};
 
-const CASES: [TwoRuns; 7] = [
+static CASES: [TwoRuns; 7] = [
     // An empty slot gets a cluster with the first page that is written in it; its other pages read as zeros.
     (
         On::Empty,
@@ -106,7 +108,7 @@ fn pages_are_written_and_outlast_the_run(rt: HostRuntime) -> Result<(), Fail> {
 }
 
 /// The chain of `v` has three pages, two of them behind its head. An insert takes two pages for it, and none for `w`.
-const ON_LONG_CHAIN: [TwoRuns; 3] = [
+static ON_LONG_CHAIN: [TwoRuns; 3] = [
     (
         On::Volume,
         b"0 df\n0 write v 1 1 7\n0 df\n0 read v 0 2\n",
@@ -153,31 +155,28 @@ const FILLED: &[u8] = b"\x01\x08\0\0\0\x07\0\0\0\x01\0\0\0";
 
 const EMPTY: &[u8] = b"\x01\x08\0\0\0\0\0\0\0\x01\0\0\0";
 
+static READ_ONLY_ROWS: [PageRow; 2] = [
+    (0, 0, 0, LAST, &[READ_ONLY, FILLED]),
+    (1, 1, 0, LAST, &[THIN_READ_ONLY, EMPTY]),
+];
+
+const REFUSED: &[u8] =
+    b"0 write @0 3 2 7\n0 read @0 3 1\n0 write @1 0 1 7\n0 write @1 4 1 7\n0 read @1 0 1\n0 df\n";
+
+const REFUSALS: &[u8] =
+    b"0 0 read only\n0 1 out of range\n0 2 page fill 0000000000000000\n0 3 read only\n\
+    0 4 out of range\n0 5 page fill 0000000000000000\n0 6 df clusters 10 of 16 pages 14 of 16\n";
+
 #[test]
 fn a_read_only_volume_is_not_written(rt: HostRuntime) -> Result<(), Fail> {
-    let rows: [PageRow; 2] = [
-        (0, 0, 0, LAST, &[READ_ONLY, FILLED]),
-        (1, 1, 0, LAST, &[THIN_READ_ONLY, EMPTY]),
-    ];
-    let disk = image(rt.alloc(), (64, 16), &rows)?;
-    let script =
-        b"0 write @0 3 2 7\n0 read @0 3 1\n0 write @1 0 1 7\n0 write @1 4 1 7\n0 read @1 0 1\n0 df\n".as_slice();
-    let printed =
-        b"0 0 read only\n0 1 out of range\n0 2 page fill 0000000000000000\n0 3 read only\n\
-        0 4 out of range\n0 5 page fill 0000000000000000\n0 6 df clusters 10 of 16 pages 14 of 16\n"
-            .as_slice();
-    play(rt.alloc(), script, printed, disk)?;
+    let disk = image(rt.alloc(), (64, 16), &READ_ONLY_ROWS)?;
+    play(rt.alloc(), REFUSED, REFUSALS, disk)?;
     Ok(())
 }
 
 /// The word 7 in 511 copies, and one that differs in its last byte: the CRC-32C of the page is 2b7b57a6.
 fn almost_filled() -> Page {
-    let mut page = [0; 4096];
-    for (at, place) in page.iter_mut().enumerate() {
-        if at % 8 == 0 {
-            *place = 7;
-        }
-    }
+    let mut page = filled(7);
     page[4095] = 1;
     page
 }
@@ -186,20 +185,18 @@ fn almost_filled() -> Page {
 fn with_odd_page(alloc: Global) -> Result<MemDisk, Fail> {
     let new = image(alloc, (64, 16), &[])?;
     let mut disk = play(alloc, b"0 create v 1 thick\n", b"0 0 ok @0\n", new)?;
-    if disk.pages() > 22 {
-        disk.write(22, &almost_filled(), WriteKind::Whole)?;
-    }
-    disk.flush()?;
+    put_page(&mut disk, 22, &almost_filled())?;
     Ok(disk)
 }
 
+const AROUND_ODD: &[u8] =
+    b"0 read v 2 1\n0 write v 1 1 9\n0 write v 3 1 9\n0 read v 1 3\n0 write v 2 1 9\n0 read v 2 1\n";
+
+const TOLD: &[u8] = b"0 0 page crc 2b7b57a6\n0 1 ok\n0 2 ok\n0 3 page fill 0000000000000009\n\
+    0 4 page crc 2b7b57a6\n0 5 page fill 0000000000000009\n0 6 ok\n0 7 page fill 0000000000000009\n";
+
 #[test]
 fn a_page_is_told_by_its_checksum_until_a_word_fills_it(rt: HostRuntime) -> Result<(), Fail> {
-    let script =
-        b"0 read v 2 1\n0 write v 1 1 9\n0 write v 3 1 9\n0 read v 1 3\n0 write v 2 1 9\n0 read v 2 1\n".as_slice();
-    let printed = b"0 0 page crc 2b7b57a6\n0 1 ok\n0 2 ok\n0 3 page fill 0000000000000009\n\
-        0 4 page crc 2b7b57a6\n0 5 page fill 0000000000000009\n0 6 ok\n0 7 page fill 0000000000000009\n"
-        .as_slice();
-    play(rt.alloc(), script, printed, with_odd_page(rt.alloc())?)?;
+    play(rt.alloc(), AROUND_ODD, TOLD, with_odd_page(rt.alloc())?)?;
     Ok(())
 }
