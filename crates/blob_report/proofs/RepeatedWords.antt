@@ -18,7 +18,8 @@ use Rattle.blob_report.specs.PageText.{first_word}
 
 length-repeated : (n : ℕ) (word : List ℕ) → length word ≡ 8 → length (repeat n word) ≡ 8 * n
 length-repeated zero word eight = refl
-length-repeated (suc n) word eight = omega (arith, length-append word (repeat n word), length-repeated n word eight, eight)
+length-repeated (suc n) word eight = omega
+    (arith, length-append word (repeat n word), length-repeated n word eight, eight)
 
 at_either_end : (n : ℕ) (word : List ℕ) → word ++ repeat n word ≡ repeat n word ++ word
 at_either_end zero word = append-nil word
@@ -60,7 +61,8 @@ module _ (page : List ℕ) (long : length page ≡ 4096) (bytes : (i : ℕ) → 
   first_bytes : (i : ℕ) → get_or (take 8 page) i 0 < 256
   first_bytes i = elim (cases_lt i 8) [
     | inl low ↦ subst (λ b. b < 256) (sym (get_or-take 8 page i 0 low)) (bytes i)
-    | inr past ↦ subst (λ b. b < 256) (sym (get_or_past (take 8 page) i 0 (omega (arith, past, length_first)))) (omega arith)
+    | inr past ↦ subst (λ b. b < 256) (sym (get_or_past (take 8 page) i 0 (omega (arith, past, length_first))))
+        (omega arith)
   ]
     where
       length_first : length (take 8 page) ≡ 8

@@ -21,7 +21,8 @@ module _ {D : Type 0} (d : Ghosts D) (s : Super) (masks : Masks) (old new : D)
       })
 
   -- whatever the end of a run is, the store is closed at most
-  pub closes_at_most : (quick : Bool) (entries : ℕ) (stopped ended : Option ℕ) → Closes d s masks old new quick entries stopped ended
+  pub closes_at_most : (quick : Bool) (entries : ℕ) (stopped ended : Option ℕ)
+      → Closes d s masks old new quick entries stopped ended
       → LeavesClosing d s masks old new
   closes_at_most quick entries (Some at) ended closes =
       subst (λ (disk : D). LeavesClosing d s masks old disk) (sym closes.1) left_alone

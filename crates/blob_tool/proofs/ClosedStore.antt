@@ -27,14 +27,16 @@ unfolding clusters_of
 masks_fit left s metas chains masks are =
     record { pages = are.pages.count; clusters = are.clusters.count; blobs = are.count }
 
--- One image has this store where another has it, and the metadata region and all behind the fixed clusters are the same.
+-- One image has this store where another has it, and the metadata region and all behind the fixed clusters are the
+-- same.
 pub record HasSameStore (s : Super) (image other : Image) : Type 0 where
   pub store : HasStore s image → HasStore s other
   pub region : (q : ℕ) → q < s.md_len → other (s.md_start + q) ≡ image (s.md_start + q)
   pub behind : IsSameBehind s image other
 
 -- a store is there where its super block is, clean or not
-store_of : (s : Super) (left : Bool) (mark : ℕ) (image : Image) → IsPageOf (with_clean mark (super_left left s)) (image 0)
+store_of : (s : Super) (left : Bool) (mark : ℕ) (image : Image)
+    → IsPageOf (with_clean mark (super_left left s)) (image 0)
     → HasStore s image
 store_of s left mark image x = record {
   faultless = x.faultless;

@@ -48,7 +48,8 @@ module _ {D : Type 0} (d : disk.Ghosts D) (before : D) (loaded : Loaded D) (same
         one = still_one x.one;
         accepted = subst (λ n. IsAccepted n (d.now loaded.disk)) (sym same.pages)
             (subst (IsAccepted (d.pages before)) now x.accepted);
-        no_head = subst (λ n. HasNoHeadBesideMask (super_of (d.now loaded.disk 0) n) (d.now loaded.disk)) (sym same.pages)
+        no_head = subst (λ n. HasNoHeadBesideMask (super_of (d.now loaded.disk 0) n) (d.now loaded.disk))
+            (sym same.pages)
             (subst (λ (i : Image). HasNoHeadBesideMask (super_of (i 0) (d.pages before)) i) now x.no_head);
       }
 

@@ -57,7 +57,8 @@ module _ {D : Type 0} (d : Ghosts D) (laws : LoadLaws) (law : IsTrue d.tells →
 
   came : run.ComesFrom d laws law b kept quick read sound image
   came = run.was_one d laws law b kept quick read sound back _ (closed.closing told)
-      (closes.from_closing d laws law b kept quick read sound runs masks claims) image ((closed.lasting told image).1 refl)
+      (closes.from_closing d laws law b kept quick read sound runs masks claims) image
+      ((closed.lasting told image).1 refl)
 
   store : HasStore s image
   store = came.same.store ((run.survived d laws law b kept quick read sound).stands runs came.image came.was).store
@@ -74,7 +75,8 @@ module _ {D : Type 0} (d : Ghosts D) (laws : LoadLaws) (law : IsTrue d.tells →
 
   written : IsCleanWith (super_left b.at.clean s) masks image → IsLeftClean d s first b.at back
   written is =
-      let x = closes.unloaded_at d laws law b kept quick read sound runs masks claims came.image image came.was came.same
+      let x = closes.unloaded_at d laws law b kept quick read sound runs masks claims came.image image came.was
+      came.same
       is in
       record {
         masks = masks;

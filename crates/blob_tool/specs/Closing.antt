@@ -51,8 +51,8 @@ module _ {D : Type 0} (d : Ghosts D) (s : Super) (masks : Masks) (old new : D) w
       pub clean : IsTrue d.tells → (AreTrusted s quick → ⊥) → IsCleanWith s masks (d.now new)
       pub quiet : d.write_faults new ≡ d.write_faults old
 
-    -- A run that stopped leaves the device alone. Any other is closed by an unload; where that fails the run ends behind
-    -- so many entries.
+    -- A run that stopped leaves the device alone. Any other is closed by an unload; where that fails the run ends
+    -- behind so many entries.
     abbrev pub Closes : ℕ → Option ℕ → Option ℕ → Type 0
     Closes entries (Some at) ended = (ended ≡ Some at) × (new ≡ old)
     Closes entries None None = IsClosed

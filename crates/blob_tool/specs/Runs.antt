@@ -85,8 +85,8 @@ module _ {D : Type 0} (d : disk.Ghosts D) (script : List (List Command)) where
 
     -- what is printed of the log depends on which script it is
     module _ (from : RunScript) {K : Type 0} (k : sink.Ghosts K) (out out_now : K) (back : D) where
-      -- a run from this state, behind which the store was unloaded at most, with the masks that its metadata claims, and
-      -- the device is handed back; and of the text of its log as much as was printed
+      -- a run from this state, behind which the store was unloaded at most, with the masks that its metadata claims,
+      -- and the device is handed back; and of the text of its log as much as was printed
       pub record Played (first : StoreView D) : Type 0 where
         pub last : StoreView D
         pub run : IsRun first last

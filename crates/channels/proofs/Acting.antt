@@ -154,7 +154,8 @@ module _ (told : Bool) (s : Super) (first : Volumes) (script : ℕ → List Comm
 
     -- or keeps it
     pub keeping_acts : e.unsent ≡ c.unsent → IsFull queue → Acts p queue
-    keeping_acts same many = inr (full p (messages_by s_ (unsent_of channels) queue) k serial is_posted many, stays same)
+    keeping_acts same many = inr
+        (full p (messages_by s_ (unsent_of channels) queue) k serial is_posted many, stays same)
 
 -- ---- the metadata thread
 

@@ -120,7 +120,8 @@ module _ {D : Type 0} (d : Ghosts D) (p : WithOpening D) (channels : List Channe
 
     can_by : HaveEnded p.at.rows → can_metadata (run_of w) ≡ (is_some p.at.job || used)
     can_by ended =
-        ap (λ b. b || is_there s.held || has_any queue || has_any s.waiting || is_there s.fill || used) (job_seen p.at.job)
+        ap (λ b. b || is_there s.held || has_any queue || has_any s.waiting || is_there s.fill || used)
+        (job_seen p.at.job)
         ∙ ap (λ b. is_some p.at.job || b || has_any queue || has_any s.waiting || is_there s.fill || used)
         (no_message ended s.held (λ m is. is_held is))
         ∙ ap (λ b. is_some p.at.job || false || b || has_any s.waiting || is_there s.fill || used)

@@ -1,5 +1,6 @@
 -- The step of the metadata thread, by what its calls answer.
-use Rattle.std.proofs.Common.{◌≡◌, ◌⊎◌, ℕ, Bool, true, false, ◌||◌, List, [], ◌∷◌, ◌++◌, Option, Some, None, refl, sym, ap, ◌∙◌}
+use Rattle.std.proofs.Common.{◌≡◌, ◌⊎◌, ℕ, Bool, true, false, ◌||◌, List, [], ◌∷◌, ◌++◌, Option, Some, None, refl, sym}
+use Rattle.std.proofs.Common.{ap, ◌∙◌}
 use Rattle.std.proofs.Common.{subst, inl, inr}
 use Rattle.std.specs.Prelude.{if◌then◌else◌}
 use Rattle.std.proofs.lemmas.Bool.{cases_Bool, false≢true}
@@ -81,7 +82,8 @@ module _ (w : RunState) where
       ∙ fifth (is_there w.job) (is_there w.held) (has_any w.queue) (has_any w.waiting) used
 
   pub by_use : used ≡ true → can_metadata w ≡ true
-  by_use is = ap (λ b. is_there w.job || is_there w.held || has_any w.queue || has_any w.waiting || is_there w.fill || b)
+  by_use is = ap
+      (λ b. is_there w.job || is_there w.held || has_any w.queue || has_any w.waiting || is_there w.fill || b)
       is ∙ sixth (is_there w.job) (is_there w.held) (has_any w.queue) (has_any w.waiting) (is_there w.fill)
 
   by_running : (job : JobInRun) → w.job ≡ Some job → can_metadata w ≡ true

@@ -13,7 +13,8 @@ use Rattle.store_model.specs.Cases.Copy.{stage_left}
 use Rattle.store_model.specs.Cases.CopyFail.{copy, flush, TriedCopy}
 use Rattle.store_model.specs.Claiming.{given_back, logs_filled, logs_own, LogsWork}
 use Rattle.store_model.specs.Device.{Device}
-use Rattle.store_model.specs.Rows.{Claiming, Copying, Decided, fill_row, Idle, OpenClaim, Posted, Ready, Row, Rows, Stage}
+use Rattle.store_model.specs.Rows.{Claiming, Copying, Decided, fill_row, Idle, OpenClaim, Posted, Ready, Row, Rows}
+use Rattle.store_model.specs.Rows.{Stage}
 use Rattle.store_model.specs.Rows.{with_row}
 use Rattle.store_model.specs.StoreState.{StoreState}
 use Rattle.store_model.specs.Turning.{stopped_now}
@@ -206,7 +207,8 @@ module _ {D : Type 0} (d : Ghosts D) (p q : StoreView D) (channel : ℕ)
           let both = sym at ∙ bad in cc both
       tried_unposted claim stage (flush at) serial bad = let both = sym at ∙ bad in cc both
   own itself kind.halts_fill is made = let t = made.0 in
-      let e = logs _ t.next t.posted.channel (given_back (state_of d p) fill_row _).rows t.posted.command t.posted.rest _
+      let e = logs _ t.next t.posted.channel (given_back (state_of d p) fill_row _).rows t.posted.command t.posted.rest
+      _
       refl (ap (λ (r : Row). r.left) t.posted.row) in
       absurd (false≢true (sym (ap (λ (r : Row). logs_itself (stage_in_run r.stage)) t.posted.row)
       ∙ subst LogsItself (sym e) itself))

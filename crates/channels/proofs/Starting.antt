@@ -100,7 +100,8 @@ held_from p holds k = go p.filling refl
     go : (o : Option ℕ) → p.filling ≡ o → comes_from k (message_filled_for p) ≡ fills_for p.filling k
     go None none =
         ap (λ (o : Option ℕ). comes_from k (option_and_then (λ channel.
-        option_map (λ serial. record { channel = channel; serial = serial }) (serial_in (p.rows channel).stage)) o)) none
+        option_map (λ serial. record { channel = channel; serial = serial }) (serial_in (p.rows channel).stage)) o))
+        none
         ∙ sym (ap (λ (o : Option ℕ). fills_for o k) none)
     go (Some channel) works =
         let x = holds channel works in
@@ -130,7 +131,8 @@ module _ {D : Type 0} (d : Ghosts D) (laws : DriverLaws) (w : Driver D) (kept : 
     channels = own_then p.filling w.plant.at.rows w.channels are;
     repaired = repaired;
     run = subst (λ (x : DrivenStore). RunFacts (run_of x)) (sym starts_as)
-        ((laws_on d laws w.plant).start p (of_channels d w.plant kept seventeen) kept.facts (stands d state w.plant kept));
+        ((laws_on d laws w.plant).start p (of_channels d w.plant kept seventeen) kept.facts
+        (stands d state w.plant kept));
     fill = record {
       looks = ap (λ (s : MetadataState). s.found_none) begins;
       asked = λ msg is. let bad : None ≡ Some msg = sym (ap (λ (s : MetadataState). s.fill) begins) ∙ is in

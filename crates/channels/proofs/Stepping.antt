@@ -1,5 +1,6 @@
 -- A step of a driver as one of its run, and what the driver keeps.
-use Rattle.std.proofs.Common.{◌≡◌, false, inl, inr, ℕ, ◌<◌, List, length, Option, Some, sym, ◌∙◌, ap, subst, arith, get_or}
+use Rattle.std.proofs.Common.{◌≡◌, false, inl, inr, ℕ, ◌<◌, List, length, Option, Some, sym, ◌∙◌, ap, subst, arith}
+use Rattle.std.proofs.Common.{get_or}
 use Rattle.std.specs.Prelude.{slice_get, slice_set}
 use Rattle.std.proofs.lemmas.Bool.{cases_eq}
 use Rattle.std.proofs.lemmas.Option.{slice_get-get_or, slice_get_within}
@@ -56,7 +57,8 @@ module _ {D : Type 0} (d : Ghosts D) (laws : DriverLaws) (plain : PlainRowLaws) 
       (state_of d v.plant.at)) store.opening later.facts
 
   in_run : StepOf (sizes_of w.plant.opening.super) actor (run_of (driven d w)) (run_of (driven d v))
-  in_run = (laws_on d laws w.plant).step d.tells actor (driven d w) (driven d v) kept.placed.some_pages (of_channels d w.plant kept is.seventeen) kept.facts
+  in_run = (laws_on d laws w.plant).step d.tells actor (driven d w) (driven d v) kept.placed.some_pages
+      (of_channels d w.plant kept is.seventeen) kept.facts
       later_facts
       (plain.run d.tells kept.run.0 (state_of d w.plant.opening) (state_of d w.plant.at) kept.run.1
       (plain.opens (state_of d w.plant.opening) kept.began))

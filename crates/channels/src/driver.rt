@@ -9,7 +9,8 @@ ghost use Rattle.run_moves.specs.DrivenStore.{driven_at_start};
 ghost use Rattle.run_moves.specs.DriverSteps.{has_all_ended, DriverStep, StoreFollows};
 ghost use Rattle.channels.specs.Actors.{actor_in_run, actors_in_run};
 ghost use Rattle.channels.specs.ChannelState.{starting_at};
-ghost use Rattle.channels.specs.Driving.{driven, AreChannelsOf, AreStarting, IsDriven, IsSameStore, KeepsFill, StillKeepsFill, Steps};
+ghost use Rattle.channels.specs.Driving.{driven, AreChannelsOf, AreStarting, IsDriven, IsSameStore, KeepsFill};
+ghost use Rattle.channels.specs.Driving.{StillKeepsFill, Steps};
 ghost use Rattle.script_lang.specs.Schedules.{repeated};
 
 use crate::channel::Channel;

@@ -27,8 +27,8 @@ pub enum RunEnd {
 
 /// Runs a store, of which nothing is left to repair, to its end: the steps of a schedule, and then rounds of channels 0
 /// to 15 and the metadata thread until all have ended. Rows may be at any stage, as others have left them that ran it
-/// before: the metadata thread takes the store over with the command that slots are filled for, ends what is done for it
-/// with its first step, behind the job that runs, and serves it anew. `alloc` serves the jobs of commands alone.
+/// before: the metadata thread takes the store over with the command that slots are filled for, ends what is done for
+/// it with its first step, behind the job that runs, and serves it anew. `alloc` serves the jobs of commands alone.
 pub fn run_stepwise<D: PageDisk>(
     alloc: Global,
     plant: Plant<D>,

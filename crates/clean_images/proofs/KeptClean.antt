@@ -137,10 +137,11 @@ module _ {D : Type 0} (d : Ghosts D) (law : IsTrue d.tells → Telling d.now d.i
     still_marked dirty (other _ page at ne) c left =
         let x = one_page touch page at (d.images from) (d.now from) held_now c left in
         in_use_still s page ne x.before c x.but (old.in_use dirty x.before x.was)
-    still_marked dirty (marks content lasting says is never) c left = elim (marked_or_old content lasting says is c left) [
-      | inl held ↦ old.in_use dirty c held
-      | inr marked ↦ marked
-    ]
+    still_marked dirty (marks content lasting says is never) c left = elim
+        (marked_or_old content lasting says is c left) [
+          | inl held ↦ old.in_use dirty c held
+          | inr marked ↦ marked
+        ]
 
     -- where it is marked by the turn, one image is left
     one_left : (t : Touch) → DoesTouch d from to t → is_lasting t ≡ true → Only (d.now to) (d.images to)

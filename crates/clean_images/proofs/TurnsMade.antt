@@ -38,7 +38,8 @@ abbrev pub RunsClean : StoreState → Type 0
 RunsClean q = (q.clean ≡ true) × (q.stopped ≡ None)
 
 -- The device is left alone or read; a page behind the fixed clusters is written; on a store that is marked, any but the
--- super block; or the super block is replaced by one that says that the store is in use, which is marked then, or stops.
+-- super block; or the super block is replaced by one that says that the store is in use, which is marked then, or
+-- stops.
 pub data Pages (s : Super) (p q : StoreState) (touch : Touch) : Type 0 where
   none : WritesNone touch → Pages s p q touch
   behind : (page : ℕ) → WritesTo touch page → fixed_clusters_of s * cluster_pages_of s ≤ page → Pages s p q touch
@@ -114,23 +115,28 @@ module _ (known : Known) (told : Bool) (first : MarksFirst known.p) where
     claim_pages row left stage claim is runs page n next content = behind (page_of_claim p claim page) refl
         (claimed_behind known runs row claim (ap (λ (r : Row). r.claim) is) page (omega (arith, next)))
 
-    tried_pages : (RunsClean q → ⊥) → {phase : Phase} (running : Runs p phase) (tried : fail.Tried p.super running.job phase)
+    tried_pages : (RunsClean q → ⊥)
+        → {phase : Phase} (running : Runs p phase) (tried : fail.Tried p.super running.job phase)
         → Pages s p q (fail.tried_at p tried)
     tried_pages never running (fail.mark content is says) = marks content false (says_here content says) refl never
     tried_pages never running (fail.zeros at is) = behind at refl (zeroed_behind known at (subst (Runs p) is running))
     tried_pages never running (fail.page put is) = put_pages running put is false
     tried_pages never running (fail.head r commit is) = head_pages r (Some commit) (subst (Runs p) is running) _ false
 
-    alone_pages : (RunsClean q → ⊥) → {phase : Phase} (running : Runs p phase) (tried : break_off.TriedAlone p.super running.job phase)
+    alone_pages : (RunsClean q → ⊥)
+        → {phase : Phase} (running : Runs p phase) (tried : break_off.TriedAlone p.super running.job phase)
         → Pages s p q (break_off.tried_alone p tried)
     alone_pages never running (break_off.mark content is says) = marks content false (says_here content says) refl never
     alone_pages never running (break_off.page put is) = put_pages running put is false
 
-    insert_pages : (RunsClean q → ⊥) → {phase : Phase} (running : Runs p phase) (tried : insert_fail.TriedInsert p.super running.job phase)
+    insert_pages : (RunsClean q → ⊥)
+        → {phase : Phase} (running : Runs p phase) (tried : insert_fail.TriedInsert p.super running.job phase)
         → Pages s p q (insert_fail.tried_insert p tried)
-    insert_pages never running (insert_fail.mark content is says) = marks content false (says_here content says) refl never
+    insert_pages never running (insert_fail.mark content is says) = marks content false
+        (says_here content says) refl never
     insert_pages never running (insert_fail.page put is) = put_pages running put is false
-    insert_pages never running (insert_fail.head r new is new_is) = head_pages r None (subst (Runs p) is running) _ false
+    insert_pages never running (insert_fail.head r new is new_is) = head_pages r None
+        (subst (Runs p) is running) _ false
 
     copy_pages : (t : copy_fail.CopyFails p q) → Pages s p q ((the k.copy_fails).touch told p q t)
     copy_pages t = by t.tried

@@ -33,17 +33,20 @@ module _ (s : Super) (masks : Masks) (fit : MasksFit s masks) (placed : MasksPla
         whole = record {
           pages =
               mask_stays s.used_page_mask_start 0 masks.pages _ mid new stays
-              (λ page a b. let lt = (placed.apart page (inl (resized _ page fit.pages a))).behind_super in omega (arith, lt, b))
+              (λ page a b. let lt = (placed.apart page (inl (resized _ page fit.pages a))).behind_super in omega
+              (arith, lt, b))
               whole.pages;
           clusters =
               mask_stays s.used_cluster_mask_start 1 masks.clusters _ mid new stays
               (λ page a b.
-              let lt = (placed.apart page (inr (inl (resized _ page fit.clusters a)))).behind_super in omega (arith, lt, b))
+              let lt = (placed.apart page (inr (inl (resized _ page fit.clusters a)))).behind_super in omega
+              (arith, lt, b))
               whole.clusters;
           blobs =
               mask_stays s.used_blobid_mask_start 2 masks.blobs _ mid new stays
               (λ page a b.
-              let lt = (placed.apart page (inr (inr (resized _ page fit.blobs a)))).behind_super in omega (arith, lt, b))
+              let lt = (placed.apart page (inr (inr (resized _ page fit.blobs a)))).behind_super in omega
+              (arith, lt, b))
               whole.blobs;
         };
         others = λ page out. stays page (λ e. out (inl e)) ∙ same page (λ at. out (inr at));

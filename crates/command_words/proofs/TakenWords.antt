@@ -183,7 +183,8 @@ module _ (p : Text × List Text) (no_help : (bytes_eq p.0 (codes "help") && true
   shape_taken (Some s) among none has = among_taken s (among s refl) none
 
 stop_taken : (stop : Option (Text × List Text)) → StopsAtNoHelp line.top (names_of line) stop
-    → entered_fault line stop ≡ [] → is_some (entered line stop) ≡ true → is_some (command_at (entered line stop)) ≡ true
+    → entered_fault line stop ≡ [] → is_some (entered line stop) ≡ true → is_some (command_at (entered line stop))
+    ≡ true
 stop_taken None no_help none has = cc has
 stop_taken (Some p) no_help none has =
     let answers = λ (s : Shape). answers_to p.0 (label_of s) in

@@ -12,8 +12,8 @@ pub(crate) const LAST: u32 = 0xFFFF_FFFF;
 pub(crate) const ID: u64 = 1 << 32;
 
 /// The fields of a super block up to its rest. The store has 64 pages and clusters of 4 pages, the masks of pages, of
-/// clusters and of blobs at the pages 1, 2 and 3, and 16 metadata pages from page 4 on. It isn't clean, and has no super
-/// blob.
+/// clusters and of blobs at the pages 1, 2 and 3, and 16 metadata pages from page 4 on. It isn't clean, and has no
+/// super blob.
 const SUPER: &[u8; 96] =
     b"SPDKBLOB\x03\0\0\0\0\x10\0\0\0\0\0\0\xFF\xFF\xFF\xFF\xFF\xFF\xFF\xFF\0\x40\0\0\
     \x01\0\0\0\x01\0\0\0\x02\0\0\0\x01\0\0\0\x04\0\0\0\x10\0\0\0\0\0\0\0\0\0\0\0\0\0\0\0\0\0\0\0\

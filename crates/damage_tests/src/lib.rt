@@ -1,5 +1,5 @@
-//! Tests of damaged images and failing calls: each fault with its numbers, which of two faults is told, what looks wrong
-//! and is no fault, and how whole runs end.
+//! Tests of damaged images and failing calls: each fault with its numbers, which of two faults is told, what looks
+//! wrong and is no fault, and how whole runs end.
 #![tactic(auto)]
 
 #[cfg(test)]

@@ -1,5 +1,5 @@
-//! Faults of different kinds in one image, of which the first is told: the super block's; by heads upwards a chain's and
-//! then its metadata's; then those of parents, and then those of clusters.
+//! Faults of different kinds in one image, of which the first is told: the super block's; by heads upwards a chain's
+//! and then its metadata's; then those of parents, and then those of clusters.
 
 use crate::images::{ID, Image, LAST, MdRow, SMALL};
 use crate::loads::expect;

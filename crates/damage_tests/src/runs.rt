@@ -7,8 +7,8 @@ use page_disk::{MemDisk, PageDisk};
 use std::alloc::Global;
 use std::test::Fail;
 
-/// Expects that a run of a command on a device ends with this fault of its image, prints nothing, and neither writes nor
-/// flushes.
+/// Expects that a run of a command on a device ends with this fault of its image, prints nothing, and neither writes
+/// nor flushes.
 fn expect_fault(alloc: Global, disk: MemDisk, fault: &str) -> Result<(), Fail> {
     let clock = disk.clock();
     let wanted = format!(in alloc; "Image {{ fault: {fault} }}")?;

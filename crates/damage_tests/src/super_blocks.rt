@@ -109,8 +109,8 @@ static ORDERS: [Row; 16] = [
     ),
 ];
 
-/// Bytes of which a bit is turned behind the sum: of the rest and of the sum, at both ends; beside a wrong version, which is
-/// told before; and beside a wrong size of a metadata page, which isn't.
+/// Bytes of which a bit is turned behind the sum: of the rest and of the sum, at both ends; beside a wrong version,
+/// which is told before; and beside a wrong size of a metadata page, which isn't.
 static SUMS: [(&[(u64, usize)], Words, &str); 6] = [
     (&[(0, 96)], &[], "BadChecksum"),
     (&[(0, 4091)], &[], "BadChecksum"),

@@ -26,8 +26,8 @@ struct Case {
 }
 
 /// A volume `v` at head 5 with cluster 9 in its second slot, over its read-only parent `s` at head 3, which has another
-/// clone `c` at head 6; below s stands `g` at head 1, of three slots. A locked blob at head 7 is the one clone of `r` at
-/// head 4, and `u` at head 2 is alone; at head 0 is the super blob.
+/// clone `c` at head 6; below s stands `g` at head 1, of three slots. A locked blob at head 7 is the one clone of `r`
+/// at head 4, and `u` at head 2 is alone; at head 0 is the super blob.
 const FAMILY: [Blob; 8] = [
     Blob {
         head: 0,

@@ -149,7 +149,8 @@ module _ {D : Type 0} (d : Ghosts D) (p : StoreView D) (running : IsRunning (sta
     }
 
     -- that its pages aren't taken is why
-    pub deletion_short : (reply : Reply) → IsShort (deletion_needs drafts) p.pages reply → IsRefusedAtBegin s command reply
+    pub deletion_short : (reply : Reply) → IsShort (deletion_needs drafts) p.pages reply
+        → IsRefusedAtBegin s command reply
     deletion_short NoPage few = lacks_pages few
     deletion_short Memory memory = lacks_memory
     deletion_short _ other = absurd other
@@ -174,7 +175,8 @@ module _ {D : Type 0} (d : Ghosts D) (p : StoreView D) (running : IsRunning (sta
     list_as = list_is d p running clean runs no_job command x it parts are channel after job on
 
     none_claimed : on.laid.first.effects.claimed ≡ []
-    none_claimed = ap (λ (q : Planned). q.effects.claimed) (first_as d p running clean runs no_job command x it parts are channel after job on)
+    none_claimed = ap (λ (q : Planned). q.effects.claimed)
+        (first_as d p running clean runs no_job command x it parts are channel after job on)
 
     -- the job, as the model has it
     abbrev as_seen : JobState
@@ -220,7 +222,8 @@ module _ {D : Type 0} (d : Ghosts D) (p : StoreView D) (running : IsRunning (sta
         subst (CanAllBeKept (blobs_in p)) (sym list_as)
         (delete_all_kept (fixed_of s.super) (blobs_in p) x.of x.clone it.old it.heir resolves
         (rest s running clean runs command x it) it.there it.there_too it.one
-        (unlocked s running clean runs command x it) are.effects.mark_room has (x.of ∷ on.laid.going) (x.clone ∷ on.laid.taking)
+        (unlocked s running clean runs command x it) are.effects.mark_room has (x.of ∷ on.laid.going)
+        (x.clone ∷ on.laid.taking)
         _ _ parts.besides.freed parts.old parts.old_of_clone on.laid.going)
 
 -- ---- the command is logged instead

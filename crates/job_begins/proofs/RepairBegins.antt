@@ -203,7 +203,8 @@ module _ {D : Type 0} (d : Ghosts D) (p : StoreView D) (running : IsRunning (sta
           → ((c : ℕ) → (is_in bits c ≡ true) ↔ IsMappedBeside s.super.md_len s.base head c) → (freed : List ℕ)
           → ((c : ℕ) → (is_among c freed ≡ true) ↔ IsMissing bits old.map c) → (behind : List ℕ)
           → s.chains head ≡ Some (head ∷ behind)
-          → BeginsRepair s (state_of d (record p { job = Some (marked p.clean (removing_for whom.Repair (erasure freed) behind [])) }))
+          → BeginsRepair s
+          (state_of d (record p { job = Some (marked p.clean (removing_for whom.Repair (erasure freed) behind [])) }))
       removes bits bits_are freed freed_are behind chain = record {
         runs = runs;
         no_job = no_job;

@@ -40,7 +40,8 @@ module _ (m : Meta) (slots clusters : List ℕ) where
 
     pub fills_all : i ≡ length slots → now ≡ with_clusters m slots clusters
     fills_all end =
-        sym (ap (λ l. with_clusters now l (drop i clusters)) (ap (λ n. drop n slots) end ∙ drop-length slots)) ∙ f.so_far
+        sym (ap (λ l. with_clusters now l (drop i clusters)) (ap (λ n. drop n slots) end ∙ drop-length slots))
+        ∙ f.so_far
 
 -- where place 0 is in use it isn't among the least clear ones
 pub some_claimed : (bits : List Bool) (claimed : List ℕ) → is_in bits 0 ≡ true → AreLeastClear bits claimed

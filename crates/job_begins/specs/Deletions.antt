@@ -1,5 +1,6 @@
 -- What the delete of a blob with one clone asks a job to do, and its job.
-use Rattle.std.specs.Prelude.{◌≡◌, ◌↔◌, ◌+◌, ◌-◌, ◌<◌, ◌^◌, ℕ, Bool, true, false, Option, Some, None, List, [], ◌∷◌, ◌++◌}
+use Rattle.std.specs.Prelude.{◌≡◌, ◌↔◌, ◌+◌, ◌-◌, ◌<◌, ◌^◌, ℕ, Bool, true, false, Option, Some, None, List, [], ◌∷◌}
+use Rattle.std.specs.Prelude.{◌++◌}
 use Rattle.std.specs.Prelude.{length}
 use Rattle.std.specs.FinMap as map
 use Rattle.bit_array.specs.Bits.{is_in}
@@ -79,8 +80,8 @@ pub record AreDeletionEffects (md_len : ℕ) (b : Blobs) (clusters : ℕ) (ask :
       → (is_among c x.freed ≡ true) ↔ IsMissing (all_set beside (clusters_of ask.taking.map) true) ask.going.map c
 
 -- The job on these places: each of the two is laid on its head and on those that are its own, in their order, and then
--- the blob is erased, with the places that the first one gave it. The old ones stood behind the heads of the blob and of
--- its clone.
+-- the blob is erased, with the places that the first one gave it. The old ones stood behind the heads of the blob and
+-- of its clone.
 pub record IsDeletionLaid (x : DeletionDrafts) (effects : DeletionEffects) (channel : ℕ)
     (taken old old_of_clone : List ℕ) (job : RunningJob) : Type 0 where
   -- the places behind the head of each

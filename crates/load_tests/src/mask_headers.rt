@@ -6,8 +6,8 @@ use std::alloc::Global;
 use std::test::Fail;
 use test_stores::{LAST, THIN, image};
 
-/// The first bytes of the masks of used pages, clusters and heads, of 16 bits each: a blob has page 0 and no cluster, and
-/// five clusters are fixed.
+/// The first bytes of the masks of used pages, clusters and heads, of 16 bits each: a blob has page 0 and no cluster,
+/// and five clusters are fixed.
 const MASKS: [[u8; 7]; 3] = [
     [0, 16, 0, 0, 0, 1, 0],
     [1, 16, 0, 0, 0, 0b0001_1111, 0],

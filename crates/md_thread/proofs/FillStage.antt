@@ -4,7 +4,8 @@ use Rattle.std.specs.Prelude.{IsSome}
 use Rattle.volume_model.specs.declared.command.Command.{Command}
 use Rattle.volume_model.specs.declared.reply.Msg.{Msg}
 use Rattle.store_model.specs.Filling.{FillStands, StandsAt}
-use Rattle.store_model.specs.Rows.{Claiming, Copying, Decided, Decision, Ended, fill_row, Idle, InJob, OpenClaim, Posted}
+use Rattle.store_model.specs.Rows.{Claiming, Copying, Decided, Decision, Ended, fill_row, Idle, InJob, OpenClaim}
+use Rattle.store_model.specs.Rows.{Posted}
 use Rattle.store_model.specs.Rows.{Ready, Row, Stage}
 use Rattle.store_model.specs.RunInvariant.{IsShaped}
 use Rattle.store_model.specs.StoreState.{StoreState}

@@ -11,7 +11,8 @@ use Rattle.store_model.specs.StoreState.{StoreState}
 module _ (told : Bool) (p q : StoreState) (channel : ℕ) (unclaimed : (p.rows channel).claim ≡ None)
     (unused : p.rows fill_row ≡ unused_row) where
   -- a row with a claim isn't the channel's
-  claims_none : (row : ℕ) (now : Row) (claim : OpenClaim) → p.rows row ≡ now → now.claim ≡ Some claim → row ≡ channel → ⊥
+  claims_none : (row : ℕ) (now : Row) (claim : OpenClaim) → p.rows row ≡ now → now.claim ≡ Some claim → row ≡ channel
+      → ⊥
   claims_none row now claim is some same =
       let bad = sym some ∙ ap (λ (r : Row). r.claim) (sym is) ∙ ap (λ k. (p.rows k).claim) same ∙ unclaimed in cc bad
 

@@ -53,7 +53,8 @@ module _ (p : StoreState) (s : MetadataState) where
   or_any None (x ∷ l) some = refl
   or_any (Some x) waiting some = refl
 
-  or_unused : (fill : Option Msg) (in_hand : Bool) → (fill ≡ None → in_hand ≡ false) → (is_there fill || not in_hand) ≡ true
+  or_unused : (fill : Option Msg) (in_hand : Bool) → (fill ≡ None → in_hand ≡ false) → (is_there fill || not in_hand)
+      ≡ true
   or_unused None in_hand free = ap (λ u. not u) (free refl)
   or_unused (Some x) in_hand free = refl
 

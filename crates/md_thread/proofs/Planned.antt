@@ -35,7 +35,8 @@ pub answerable : (command : Command) → IsForMetadata command → ¬ IsFill com
     → ((volume : VolumeRef) (name : Text) → command ≡ c.Rename volume name → ⊥)
     → ((volume : VolumeRef) (name : Text) → command ≡ c.Snapshot volume name → ⊥)
     → ((volume : VolumeRef) → command ≡ c.Delete volume → ⊥) → IsAnswerable command
-answerable (c.SetX volume key value) is fill create put sync read_only resize clone rename snapshot delete = inl (tt, tt)
+answerable (c.SetX volume key value) is fill create put sync read_only resize clone rename snapshot delete = inl
+    (tt, tt)
 answerable (c.DelX volume key) is fill create put sync read_only resize clone rename snapshot delete = inl (tt, tt)
 answerable (c.GetX volume key) is fill create put sync read_only resize clone rename snapshot delete = inl (tt, tt)
 answerable (c.Info volume) is fill create put sync read_only resize clone rename snapshot delete = inr tt

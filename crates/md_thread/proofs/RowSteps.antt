@@ -100,7 +100,8 @@ module _ (tells : Bool) (p q : StoreState) where
   row_steps stands kind.halts t = halted t
   row_steps stands kind.settles t = one_row p q _ t.next t.channel _ refl
       (at t.channel (Decided t.outcome) Idle t.decided tt idle)
-  row_steps stands kind.ends t = one_row p q _ t.next t.channel _ refl (on t.channel [] Idle None Ended None t.over tt tt
+  row_steps stands kind.ends t = one_row p q _ t.next t.channel _ refl
+      (on t.channel [] Idle None Ended None t.over tt tt
       (λ serial other was is. cc was))
   row_steps stands kind.begins t = let x = t.posted in one_row p q _ t.next x.channel _ refl
       (on x.channel (x.command ∷ x.rest) (Posted x.serial) None InJob None x.row tt tt (λ serial other was is. cc is))
@@ -120,10 +121,12 @@ module _ (tells : Bool) (p q : StoreState) where
   row_steps stands kind.more_fails t = let x = t.served in one_row p q _ t.next x.channel _ refl
       (was x.channel x.command x.rest InJob None (Decided Answered) x.row tt (told Answered))
   row_steps stands kind.more_breaks_off t = no_row p q _ t.next refl
-  row_steps stands kind.flushes t = one_row p q _ t.next t.channel _ refl (was t.channel _ t.rest Idle None Idle t.row tt idle)
+  row_steps stands kind.flushes t = one_row p q _ t.next t.channel _ refl
+      (was t.channel _ t.rest Idle None Idle t.row tt idle)
   row_steps stands kind.flush_fails t =
       one_row p q _ t.next t.channel _ refl (was t.channel _ t.rest Idle None Idle t.row tt idle)
-  row_steps stands kind.reads t = one_row p q _ t.next t.channel _ refl (was t.channel _ t.rest Idle None Idle t.row tt idle)
+  row_steps stands kind.reads t = one_row p q _ t.next t.channel _ refl
+      (was t.channel _ t.rest Idle None Idle t.row tt idle)
   row_steps stands kind.refuses_write t =
       one_row p q _ t.next t.channel _ refl (was t.channel _ t.rest Idle None Idle t.row tt idle)
   row_steps stands kind.writes_page t = let x = t.at in
@@ -175,7 +178,8 @@ module _ (tells : Bool) (p q : StoreState) where
       logged_work p q (record (stopped_now p) { job = None }) refl x.row InJob (Decided Answered) _ _ t.logs x.waits tt
       (told Answered)
   row_steps stands kind.insert_breaks_down t = let x = t.inserting in
-      logged_work p q (record p { job = None }) refl x.row InJob (Decided Answered) _ _ t.logs x.waits tt (told Answered)
+      logged_work p q (record p { job = None }) refl x.row InJob (Decided Answered) _ _ t.logs x.waits tt
+      (told Answered)
   row_steps stands kind.claims_fill t = one_row p q _ t.next fill_row _ refl
       (on fill_row [] Idle None (Copying (cluster_pages_of p.super)) _ t.fill.unused tt tt
       (λ serial other was is. cc was))

@@ -41,7 +41,8 @@ module _ {D : Type 0} (d : Ghosts D) (p q : StoreView D) (s : MetadataState) (ms
   asked_on x other is =
       let same : msg ≡ other = cc is in
       subst (λ (m : Msg). IsFilledFor (rows_of q.rows m.channel)) same
-      (subst IsFilledFor (sym (filling_leaves (state_of d p) (state_of d q) d.tells msg.channel msg.channel not_fill x.1))
+      (subst IsFilledFor
+      (sym (filling_leaves (state_of d p) (state_of d q) d.tells msg.channel msg.channel not_fill x.1))
       x.0)
 
   pub asked_ended : IsFilledFor (rows_of p.rows msg.channel) → (other : Msg) → s.fill ≡ Some other

@@ -162,7 +162,8 @@ module _ (p : StoreState) (s : MetadataState) (unsent : ℕ → Option ℕ) (que
   job_due some = ap (λ j. due j s.held s.fill in_use s.waiting queue) (job_there p.job some)
 
   module _ (none : p.job ≡ None) where
-    due_now : (held fill : Option Msg) (in_hand : Bool) (waiting : List Msg) → s.held ≡ held → s.fill ≡ fill → in_use ≡ in_hand
+    due_now : (held fill : Option Msg) (in_hand : Bool) (waiting : List Msg) → s.held ≡ held → s.fill ≡ fill → in_use
+        ≡ in_hand
         → s.waiting ≡ waiting → due_here ≡ due false held fill in_hand waiting queue
     due_now held fill in_hand waiting h f u l = ap (λ j. due j s.held s.fill in_use s.waiting queue) (no_job p.job none)
         ∙ ap (λ x. due false x s.fill in_use s.waiting queue) h ∙ ap (λ x. due false held x in_use s.waiting queue) f
@@ -204,4 +205,5 @@ module _ (p : StoreState) (s : MetadataState) (unsent : ℕ → Option ℕ) (que
         ∙ ap (λ x. can false None [] [] x in_use) fill ∙ ap (λ x. can false None [] [] None x) in_hand
       where
         can : Bool → Option Msg → List Msg → List Msg → Option Msg → Bool → Bool
-        can job held queue waiting fill in_hand = job || is_there held || has_any queue || has_any waiting || is_there fill || in_hand
+        can job held queue waiting fill in_hand = job || is_there held || has_any queue || has_any waiting
+            || is_there fill || in_hand

@@ -7,8 +7,8 @@ use Rattle.run_moves.specs.FillTurns.{FailedFill, FillEnd, FillTurn, held_beside
 use Rattle.md_thread.specs.Holding.{driven_by, MetadataState}
 
 module _ (told : Bool) (p q : StoreState) where
-  -- the running job made its next turn, and what the fill's row does goes on; or its insert failed, and the command that
-  -- it works for is logged
+  -- the running job made its next turn, and what the fill's row does goes on; or its insert failed, and the command
+  -- that it works for is logged
   pub data JobMade (s t : MetadataState) : Type 0 where
     goes_on : JobTurn told p q → t ≡ s → JobMade s t
     failed : FailedFill p q → t ≡ record s { held = held_beside s.fill s.held; fill = None } → JobMade s t

@@ -146,9 +146,9 @@ impl MdState {
         self.next = Next::Plant;
     }
 
-    /// Makes the one turn of the store that is due, of which nothing is left to repair: the running job's next; else the
-    /// end of the fill's row, where it is used without a fill; else what is held is served, or waits where it has to;
-    /// else the fill makes its turn; else the first that waits is served. `Idle` comes where none is due before the
+    /// Makes the one turn of the store that is due, of which nothing is left to repair: the running job's next; else
+    /// the end of the fill's row, where it is used without a fill; else what is held is served, or waits where it has
+    /// to; else the fill makes its turn; else the first that waits is served. `Idle` comes where none is due before the
     /// queue is looked at: the store is as it was.
     pub fn md_turn<D: PageDisk>(
         &mut self,
@@ -160,7 +160,8 @@ impl MdState {
         requires repaired { IsRepaired (state_of D.PageDisk plant.old.at) }
         // It is the step that is due,
         ensures step { result ≡ Moved → IsKept D.PageDisk plant.old.at self.old
-            → MakesStep D.tells (state_of D.PageDisk plant.old.at) self.old (state_of D.PageDisk plant.new.at) self.new }
+            → MakesStep D.tells (state_of D.PageDisk plant.old.at) self.old
+            (state_of D.PageDisk plant.new.at) self.new }
         // and the fill goes on of an inflate or a decouple.
         ensures asked { IsKept D.PageDisk plant.old.at self.old → (msg : AMsg) → self.new.fill ≡ Some msg
             → IsFilledFor (rows_of plant.new.at.rows msg.channel) }

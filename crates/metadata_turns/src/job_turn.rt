@@ -51,7 +51,13 @@ impl Beside {
 
     /// The job with this work.
     pub(crate) fn at(self, work: Work) -> RunningJob
-        ensures { result ≡ record { serves = self.serves; marks = false; work = work; old = self.old; later = self.later } }
+        ensures { result ≡ record {
+          serves = self.serves;
+          marks = false;
+          work = work;
+          old = self.old;
+          later = self.later;
+        } }
     {
         let Beside {
             serves,

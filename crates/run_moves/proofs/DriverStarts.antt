@@ -57,7 +57,8 @@ module _ (p : StoreState) where
   filled_for : (channel : ℕ) (serial : ℕ) → p.filling ≡ Some channel → (p.rows channel).stage ≡ Posted serial
       → held ≡ Some (record { channel = channel; serial = serial })
   filled_for channel serial works at =
-      ap (λ o. option_and_then (λ k. option_map (λ n. record { channel = k; serial = n }) (serial_in (p.rows k).stage)) o)
+      ap (λ o. option_and_then (λ k. option_map (λ n. record { channel = k; serial = n }) (serial_in (p.rows k).stage))
+      o)
       works
       ∙ ap (λ x. option_map (λ n. record { channel = channel; serial = n }) (serial_in x)) at
 
@@ -78,7 +79,8 @@ held_posted s first script channels p has stands m is = go p.filling refl
   where
     go : (o : Option ℕ) → p.filling ≡ o → (m.channel < 16) × (stage_in_run (p.rows m.channel).stage ≡ AtPosted m.serial)
     go None none =
-        let bad : None ≡ Some m = sym (ap (λ o. option_and_then (λ k. option_map (λ n. record { channel = k; serial = n })
+        let bad : None
+        ≡ Some m = sym (ap (λ o. option_and_then (λ k. option_map (λ n. record { channel = k; serial = n })
         (serial_in (p.rows k).stage)) o) none) ∙ is in absurd (cc bad)
     go (Some channel) works =
         let x = stands.filled channel works in

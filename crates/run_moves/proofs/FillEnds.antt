@@ -46,7 +46,8 @@ rows_swapped rows ch other apart x y = fun_ext (λ k. elim (cases_eq k other) [
 ])
 
 -- behind a turn that logs it the fill's row waits or is decided
-own_after : (stage : Stage) → (stage_in_run (stage_after stage) ≡ AtIdle) ⊎ (stage_in_run (stage_after stage) ≡ AtDecided)
+own_after : (stage : Stage) → (stage_in_run (stage_after stage) ≡ AtIdle)
+    ⊎ (stage_in_run (stage_after stage) ≡ AtDecided)
 own_after Idle = inl refl
 own_after Claiming = inl refl
 own_after (Copying left) = inl refl
@@ -99,7 +100,8 @@ module _ (p q : StoreState) (d : RunMessages) (stands : FillStands p) (message :
   rows_seen ch rest stage apart =
       rows_moved p.super _ ch (decided_row rest)
       ∙ ap (λ r. with_row_in_run r ch (logged_at (map (command_in_run p.super) rest) AtDecided))
-      (rows_moved p.super p.rows fill_row _ ∙ ap (with_row_in_run (rows_in_run p.super p.rows) fill_row) (own_seen stage))
+      (rows_moved p.super p.rows fill_row _
+      ∙ ap (with_row_in_run (rows_in_run p.super p.rows) fill_row) (own_seen stage))
       ∙ rows_swapped (rows_in_run p.super p.rows) ch fill_row apart _ _
 
   -- the row of a command isn't the fill's
@@ -170,7 +172,8 @@ module _ (p q : StoreState) (d : RunMessages) (stands : FillStands p) (message :
   given_up row ch is command rest serial posted filling stage image job frozen may ends leaves =
       logs_fill ch command rest serial (ap (λ (r : Row). r.left) posted) (ap (λ (r : Row). r.stage) posted)
       (is_worked_for ch filling) stage p.live image job frozen may ends
-      (leaves ∙ ap (λ r. run_by p.super image p.base p.generations p.live (rows_behind r stage ch rest) job frozen e) is)
+      (leaves ∙ ap (λ r. run_by p.super image p.base p.generations p.live (rows_behind r stage ch rest) job frozen e)
+      is)
 
   none_left : (row : ℕ) → row ≡ fill_row → (p.rows row).left ≡ []
   none_left row is = ap (λ k. (p.rows k).left) is ∙ stands.left
@@ -184,7 +187,8 @@ module _ (p q : StoreState) (d : RunMessages) (stands : FillStands p) (message :
 
     -- while the own row isn't used
     unused_ends : (ch : ℕ) (command : Command) (rest : List Command) (serial : ℕ) (live : Map Xattrs)
-        → p.rows fill_row ≡ unused_row → (p.rows ch).left ≡ command ∷ rest → (p.rows ch).stage ≡ Posted serial → message.channel ≡ ch
+        → p.rows fill_row ≡ unused_row → (p.rows ch).left ≡ command ∷ rest → (p.rows ch).stage ≡ Posted serial
+        → message.channel ≡ ch
         → run_state_of q e ≡ run_by p.super p.device.reads p.base p.generations live
         (with_row p.rows ch (decided_row rest)) p.job p.frozen e → EndsIn FillStep
     unused_ends ch command rest serial live unused left at own leaves =

@@ -27,8 +27,8 @@ message_filled_for p = option_and_then
     p.filling
 
 -- How a driver begins on a store at whatever stages its rows are: the metadata thread holds the message of the command
--- that the fill's row works for; every other channel that is posted has its message still to send; and nothing is queued
--- or waits.
+-- that the fill's row works for; every other channel that is posted has its message still to send; and nothing is
+-- queued or waits.
 abbrev pub driven_at_start : StoreState → DrivenStore
 driven_at_start p = record {
   store = p;

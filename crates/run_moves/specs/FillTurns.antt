@@ -26,8 +26,9 @@ use Rattle.store_model.specs.StoreState.{StoreState}
 use Rattle.run_moves.specs.Projection.{RunMessages}
 
 module _ (told : Bool) (p q : StoreState) where
-  -- The fill of a channel's command goes on, on the fill's row: a cluster is claimed for its next slot, a page is copied
-  -- or the claim is lost, the insert is posted, begins or is lost, or the row takes the word of what was decided.
+  -- The fill of a channel's command goes on, on the fill's row: a cluster is claimed for its next slot, a page is
+  -- copied or the claim is lost, the insert is posted, begins or is lost, or the row takes the word of what was
+  -- decided.
   pub data FillTurn (channel : ℕ) : Type 0 where
     claims_fill : (t : ClaimsFill p q) → t.fill.posted.channel ≡ channel → FillTurn channel
     copies : (t : Copies told p q) → t.copying.row ≡ fill_row → FillTurn channel
@@ -38,8 +39,8 @@ module _ (told : Bool) (p q : StoreState) where
     settles : (t : Settles p q) → t.channel ≡ fill_row → FillTurn channel
 
   -- It ends: while its row isn't used, its last job begins, or the command is refused (or answered, if it is another),
-  -- lacks a cluster, or finds the store stopped; or on its row a copy can't be read or fails, the insert lacks pages or memory, or the store has
-  -- stopped.
+  -- lacks a cluster, or finds the store stopped; or on its row a copy can't be read or fails, the insert lacks pages or
+  -- memory, or the store has stopped.
   pub data FillEnd (channel : ℕ) : Type 0 where
     begins : (t : Begins p q) → t.posted.channel ≡ channel → p.rows fill_row ≡ unused_row → FillEnd channel
     answers : (t : Answers p q) → t.posted.channel ≡ channel → p.rows fill_row ≡ unused_row → FillEnd channel

@@ -44,8 +44,8 @@ module _ (p q : StoreState) (d : RunMessages) where
   abbrev pub IsJobMoveOf : (RunSizes → RunState → ℕ → RunState → Type 0) → ℕ → Type 0
   IsJobMoveOf Move row = Move (sizes_of p.super) (run_state_of p d) row (run_state_of q d)
 
-  -- turns that write one page: the super block, to say that the store is in use, or one of a cluster, of a chain or of an
-  -- old one
+  -- turns that write one page: the super block, to say that the store is in use, or one of a cluster, of a chain or of
+  -- an old one
   pub record PageTurns : Type 0 where
     pub marks_dirty : HasTurnsLeft q → (told : Bool) → MarksDirty told p q → IsJobMove PageMove
     pub zeroes : HasTurnsLeft q → (told : Bool) → Zeroes told p q → IsJobMove PageMove

@@ -174,7 +174,8 @@ module _ (z : RunSizes) where
   job_least w job frozen (in_insert waits none thaws) = let is = ap (job_work z) none in omega (arith, is)
 
   -- nor is more held
-  worked_least : (w : RunState) (x : Msg) (held : Option Msg) → WorksFor w x held → held_work z held ≤ held_work z w.held
+  worked_least : (w : RunState) (x : Msg) (held : Option Msg) → WorksFor w x held
+      → held_work z held ≤ held_work z w.held
   worked_least w x held (the_filled fills same) = let is = ap (held_work z) same in omega (arith, is)
   worked_least w x held (the_taken_over none was gone) = let is = ap (held_work z) gone in omega (arith, is)
 

@@ -24,8 +24,8 @@ pub record WorkLaws : Type 0 where
       → (work z v < work z w) ⊎ ((can_move w actor ≡ false) × (v ≡ w))
 
 pub record FactLaws : Type 0 where
-  -- A driver can start on a store at whatever stages its rows are, if a row in the job waits for it, a frozen blob is the
-  -- job's, and what is held is the message of a channel's row that is posted under its serial.
+  -- A driver can start on a store at whatever stages its rows are, if a row in the job waits for it, a frozen blob is
+  -- the job's, and what is held is the message of a channel's row that is posted under its serial.
   pub start : (w : RunState) (held : Option Msg)
       → ((m : Msg) → held ≡ Some m → (m.channel < 16) × ((w.rows m.channel).stage ≡ AtPosted m.serial))
       → ((h : ℕ) → w.frozen h ≡ true → (job : JobInRun) × (w.job ≡ Some job) × (job.freeze ≡ Some h))

@@ -36,8 +36,8 @@ pub data BeginsFor (w : RunState) (ch : ℕ) (held : Option Msg) (waiting : List
       → is_in_use (w.rows 16).stage ≡ false → held ≡ w.held → waiting ≡ w.waiting
       → fill ≡ None → BeginsFor w ch held waiting fill
 
--- The message of the command that the metadata thread's own row works for: that of the fill, or, where none goes on, the
--- one that was held when a metadata thread took over from another. What is held behind its logging.
+-- The message of the command that the metadata thread's own row works for: that of the fill, or, where none goes on,
+-- the one that was held when a metadata thread took over from another. What is held behind its logging.
 pub data WorksFor (w : RunState) (message : Msg) (held : Option Msg) : Type 0 where
   the_filled : w.fill ≡ Some message → held ≡ w.held → WorksFor w message held
   the_taken_over : w.fill ≡ None → w.held ≡ Some message → held ≡ None → WorksFor w message held

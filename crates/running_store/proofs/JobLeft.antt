@@ -1,5 +1,6 @@
 -- The job that is left between two replacements.
-use Rattle.std.proofs.Common.{◌≡◌, ℕ, ◌<◌, Bool, false, List, [], ◌∷◌, length, Some, refl, sym, ◌∙◌, ap, subst, arith, drop}
+use Rattle.std.proofs.Common.{◌≡◌, ℕ, ◌<◌, Bool, false, List, [], ◌∷◌, length, Some, refl, sym, ◌∙◌, ap, subst, arith}
+use Rattle.std.proofs.Common.{drop}
 use Rattle.store_model.specs.Phases.{Phase, Replaces, erasing, writing}
 use Rattle.store_model.specs.StoreState.{going_on, JobState, marked}
 use Rattle.running_store.specs.Jobs.{commit_in, erasing_for, freeze_of, job_left, phases_in, replacing_of, service_of}

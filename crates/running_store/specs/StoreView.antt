@@ -51,9 +51,40 @@ pub record WithOpening (D : Type 0) : Type 0 where
 abbrev pub view_code : {D : Type 0} → Coded D → Coded (StoreView D)
 view_code {D} d =
     code_by
-    (D × (Super × (Bool × (map.FinMap nat_cmp Meta × (map.FinMap nat_cmp Meta × (map.FinMap nat_cmp (List ℕ) × (map.FinMap nat_cmp Xattrs × (List Bool × (List Bool × (List Row × (Option ℕ × (Option JobState × (GuardsState × (ℕ × (List Entry × (List ℕ × Option ℕ))))))))))))))))
-    (coded× d (coded× super_block.the_row.coded (coded× coded_bool (coded× (map.code coded_ℕ meta.the_row.coded) (coded× (map.code coded_ℕ meta.the_row.coded) (coded× (map.code coded_ℕ (coded_list coded_ℕ)) (coded× (map.code coded_ℕ (coded_list xattr.the_row.coded)) (coded× (coded_list coded_bool) (coded× (coded_list coded_bool) (coded× (coded_list row_code) (coded× (coded_option coded_ℕ) (coded× (coded_option job_code) (coded× guards_code (coded× coded_ℕ (coded× (coded_list entry.the_row.coded) (coded× (coded_list coded_ℕ) (coded_option coded_ℕ)))))))))))))))))
-    (λ a. (a.disk, (a.super, (a.clean, (a.metas, (a.marked, (a.chains, (a.live, (a.pages, (a.clusters, (a.rows, (a.filling, (a.job, (a.guards, (a.serial, (a.log, (a.marks, a.stopped)))))))))))))))))
+    (D × (Super × (Bool × (map.FinMap nat_cmp Meta × (map.FinMap nat_cmp Meta × (map.FinMap nat_cmp (List ℕ)
+    × (map.FinMap nat_cmp Xattrs × (List Bool × (List Bool × (List Row × (Option ℕ × (Option JobState
+    × (GuardsState × (ℕ × (List Entry × (List ℕ × Option ℕ))))))))))))))))
+    (coded× d (coded× super_block.the_row.coded (coded× coded_bool
+    (coded× (map.code coded_ℕ meta.the_row.coded) (coded× (map.code coded_ℕ meta.the_row.coded)
+    (coded× (map.code coded_ℕ (coded_list coded_ℕ)) (coded× (map.code coded_ℕ (coded_list xattr.the_row.coded))
+    (coded× (coded_list coded_bool) (coded× (coded_list coded_bool) (coded× (coded_list row_code)
+    (coded× (coded_option coded_ℕ) (coded× (coded_option job_code) (coded× guards_code (coded× coded_ℕ
+    (coded× (coded_list entry.the_row.coded) (coded× (coded_list coded_ℕ) (coded_option coded_ℕ)))))))))))))))))
+    (λ a. (
+      a.disk,
+      (
+        a.super,
+        (
+          a.clean,
+          (
+            a.metas,
+            (
+              a.marked,
+              (
+                a.chains,
+                (
+                  a.live,
+                  (
+                    a.pages,
+                    (a.clusters, (a.rows, (a.filling, (a.job, (a.guards, (a.serial, (a.log, (a.marks, a.stopped)))))))),
+                  ),
+                ),
+              ),
+            ),
+          ),
+        ),
+      ),
+    ))
     (λ p. record {
       disk = p.0;
       super = p.1.0;

@@ -8,8 +8,8 @@ use pools::{ClusterPool, PagePool};
 use super_block::{Masks, Super};
 use volume_model::EntryList;
 
-/// What a run leaves of a store: its device and super block, which says whether the store is clean; which metadata pages, clusters and heads are in use; and
-/// the log.
+/// What a run leaves of a store: its device and super block, which says whether the store is clean; which metadata
+/// pages, clusters and heads are in use; and the log.
 pub struct Parts<D> {
     pub disk: D,
     pub sup: Super,

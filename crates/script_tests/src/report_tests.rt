@@ -124,7 +124,8 @@ fn volumes_are_told_line_by_line(rt: HostRuntime) -> Result<(), Fail> {
         a,
         (1, 1),
         two_volumes(a)?,
-        b"1 1 list 2\nvolume @3 \\x2d slots 1099511627776 parent @9 thick ro xattrs 2\nvolume @3 - slots 1099511627776 parent - thin rw xattrs 2\n",
+        b"1 1 list 2\nvolume @3 \\x2d slots 1099511627776 parent @9 thick ro xattrs 2\n\
+            volume @3 - slots 1099511627776 parent - thin rw xattrs 2\n",
     )?;
     let none = Reply::List(InfoList::new(a));
     expect_line(&rt, a, (1, 2), none, b"1 2 list 0\n")?;

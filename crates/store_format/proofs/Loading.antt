@@ -25,7 +25,8 @@ use Rattle.store_model.specs.Regions.{look_of, region_of, MdRegion}
 use Rattle.store_model.specs.Scans.{is_head, BlobAt, Says}
 use Rattle.store_model.proofs.NewBlob.{new_steady, two_written}
 use Rattle.unclean_load.specs.Accepted.{CanBeScanned, IsAccepted, UnloadedAreAccepted}
-use Rattle.store_format.proofs.BareMetas.{bare_are_named, bare_is_lawful, few_slots, new_bare, no_cluster, resolved_bare}
+use Rattle.store_format.proofs.BareMetas.{bare_are_named, bare_is_lawful, few_slots, new_bare, no_cluster}
+use Rattle.store_format.proofs.BareMetas.{resolved_bare}
 use Rattle.store_format.proofs.BareMetas.{AreBare}
 use Rattle.store_format.proofs.NewMasks.{are_masks, clusters_long}
 use Rattle.store_format.specs.NewStore.{first_masks, first_super, md_page, zero_page, IsNewStore, IsReadAsPlanned}
@@ -214,7 +215,8 @@ module _ (plan : Layout) (named : Option StoreName) (image : Image) (some : 0 < 
     loads_as_planned : UnloadedAreAccepted → ScanLaws → LoadsAsPlanned plan named image
     loads_as_planned accepts scans =
         let by_masks =
-        accepts sup (first_masks plan (page_of named)) image (new_metas named) (new_chains named) can_be_scanned starts.3
+        accepts sup (first_masks plan (page_of named)) image (new_metas named)
+        (new_chains named) can_be_scanned starts.3
         has_masks claims in
         record {
           sum = read.sum;

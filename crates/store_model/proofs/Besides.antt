@@ -23,7 +23,8 @@ use Rattle.store_model.proofs.StandsKept.{all_behind}
 
 -- what is shown with each attribute live as it is synced
 shows_live : (s : Super) (image : Image) (metas : Metas)
-    → shows (fixed_of s) image metas ≡ shown_by (fixed_of s) image metas (λ head. option_map (λ m. m.xattrs) (metas head))
+    → shows (fixed_of s) image metas
+    ≡ shown_by (fixed_of s) image metas (λ head. option_map (λ m. m.xattrs) (metas head))
 shows_live s image metas = fun_ext (λ head. at head (metas head))
   where
     at : (head : ℕ) (o : Option Meta)

@@ -29,7 +29,8 @@ module _ (known : Known) {phase : Phase} (running : Runs known.p phase) (now_ser
       let may = may_fail (ReadsZeros p.super j.claimed) p.super p.base p.live command j.todo
       (served_does known j running.is running.runs now_served ahead) p.device.reads in
       subst (RunInvariant s first script) (sym next)
-      (failed_keeps known channel command rest device (Decided Answered) None (ap (λ (r : Row). r.left) row) running.runs
+      (failed_keeps known channel command rest device (Decided Answered) None
+      (ap (λ (r : Row). r.left) row) running.runs
       fails.clock may
       (shaped_with p facts.shaped now channel _ refl
       (no_other known j running.is channel (waits_for_commit j channel serves ahead) now) (decided_may now channel rest)

@@ -18,5 +18,6 @@ module _ {D : Type 0} (d : Ghosts D) (x : Over d) (t : Commits d.tells x.p x.q) 
       → ImageLaw d x (left_by
       (replaces (page_of_place p t.replacing.head) (page_in t.replacing.planned t.replacing.head) true)
       (d.images from) (d.now from))
-  images does = head_images d x t.replacing (Some t.commit) t.running _ t.next refl (record t.running.job { claimed = [] }) refl refl refl t.moves
+  images does = head_images d x t.replacing (Some t.commit) t.running _ t.next refl
+      (record t.running.job { claimed = [] }) refl refl refl t.moves
       (done (ap (λ (v : StoreState). v.stopped) t.next ∙ t.running.runs) refl) does

@@ -4,7 +4,8 @@ use Rattle.store_model.specs.Jobs.{JobStands}
 use Rattle.store_model.specs.Phases.{has_commit, marking, Marks, Phase}
 use Rattle.store_model.specs.Places.{claimed_by, held_by, UsedPages}
 use Rattle.store_model.specs.RunInvariant.{RunInvariant, RunsWell}
-use Rattle.store_model.specs.StoreState.{ForCommand, ForInsert, ForRepair, JobState, marked, Service, StoreState, waiting}
+use Rattle.store_model.specs.StoreState.{ForCommand, ForInsert, ForRepair, JobState, marked, Service, StoreState}
+use Rattle.store_model.specs.StoreState.{waiting}
 use Rattle.store_model.proofs.Copies.{copied_same}
 use Rattle.store_model.proofs.Guarding.{guarded_on}
 use Rattle.store_model.proofs.JobKept.{moves_on}

@@ -52,8 +52,8 @@ pub record CanReplace (s : Super) (base : Metas) (chains : Chains) (claimed writ
   pub clusters : MovesClusters s base (replaced base r) r.freed claimed
 
 -- What is left can be done, phase by phase, over this metadata and these chains, where these fresh pages are written.
--- The store isn't marked as in use for nothing. A page that is overwritten with zeros is one of a claimed cluster; a place that is erased is held, and what a
--- replacement leaves is cleared before the next one is made.
+-- The store isn't marked as in use for nothing. A page that is overwritten with zeros is one of a claimed cluster; a
+-- place that is erased is held, and what a replacement leaves is cleared before the next one is made.
 abbrev pub Lays : Super → Metas → Chains → List ℕ → List ℕ → List Phase → Type 0
 Lays s base chains claimed written [] = (written ≡ []) × (claimed ≡ [])
 Lays s base chains claimed written (Marks ∷ rest) = (rest ≢ []) × Lays s base chains claimed written rest

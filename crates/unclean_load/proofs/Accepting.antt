@@ -131,7 +131,8 @@ module _ (placed : (s : Super) → IsFaultless s → IsPlaced s)
       let fine : IsFaultless s =
       faultless_by (is_sound (image 0)) s
       (ap (λ (t : Super). fault_of (is_sound (image 0)) t) at.is ∙ at.faultless) in
-      let kept : HasFixedPagesOf s image other = subst (λ (t : Super). HasFixedPagesOf t image other) (sym at.is) same in
+      let kept : HasFixedPagesOf s image other = subst (λ (t : Super). HasFixedPagesOf t image other)
+      (sym at.is) same in
       let first : other 0 ≡ image 0 = super_kept s (placed s fine) (apart s fine) image other kept in
       record {
         sup = s;

@@ -38,7 +38,8 @@ impl MdState {
         requires right { right.old ≡ plant.old.right }
         requires repaired { IsRepaired (state_of D.PageDisk plant.old.at) }
         ensures step { result ≡ Moved → IsKept D.PageDisk plant.old.at self.old
-            → MakesStep D.tells (state_of D.PageDisk plant.old.at) self.old (state_of D.PageDisk plant.new.at) self.new }
+            → MakesStep D.tells (state_of D.PageDisk plant.old.at) self.old
+            (state_of D.PageDisk plant.new.at) self.new }
         ensures asked { IsKept D.PageDisk plant.old.at self.old → (msg : AMsg) → self.new.fill ≡ Some msg
             → IsFilledFor (rows_of plant.new.at.rows msg.channel) }
         ensures looks { result ≡ Idle → IsKept D.PageDisk plant.old.at self.old
@@ -91,7 +92,8 @@ impl MdState {
         requires no_job { plant.old.at.job ≡ None }
         requires repaired { IsRepaired (state_of D.PageDisk plant.old.at) }
         ensures step { result ≡ Moved → IsKept D.PageDisk plant.old.at self.old
-            → MakesStep D.tells (state_of D.PageDisk plant.old.at) self.old (state_of D.PageDisk plant.new.at) self.new }
+            → MakesStep D.tells (state_of D.PageDisk plant.old.at) self.old
+            (state_of D.PageDisk plant.new.at) self.new }
         ensures asked { IsKept D.PageDisk plant.old.at self.old → (msg : AMsg) → self.new.fill ≡ Some msg
             → IsFilledFor (rows_of plant.new.at.rows msg.channel) }
         ensures looks { result ≡ Idle → IsKept D.PageDisk plant.old.at self.old

@@ -24,7 +24,8 @@ module _ {D : Type 0} (d : Ghosts D) (x : Over d) (t : Inserts d.tells x.p x.q) 
       (replaces (page_of_place p t.replacing.head) (page_in t.replacing.planned t.replacing.head) true)
       (d.images from) (d.now from))
   images does = head_images d x t.replacing None t.running _ t.next refl t.running.job refl
-      (sym (replaced_is p.base t.replacing t.new t.new_is)) (sym (rechained_is p.chains t.replacing t.new t.new_is)) t.moves
+      (sym (replaced_is p.base t.replacing t.new t.new_is)) (sym (rechained_is p.chains t.replacing t.new t.new_is))
+      t.moves
       (unchanged (sym (ap (λ (v : StoreState). v.log) t.next))) does
 
 pub law : TurnLaw case.kind

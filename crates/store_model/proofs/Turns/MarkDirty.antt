@@ -140,7 +140,8 @@ module _ {D : Type 0} (d : Ghosts D) (x : Over d) (t : MarksDirty d.tells x.p x.
         let low = held_low here well _ refl place
         (ap (λ o. is_among place (held_by o)) t.running.is ∙ next.is_held place (next.fresh place among_j)) in
         ap (λ (i : Image). i (s.md_start + place)) now_is
-        ∙ elsewhere d x t.running.runs t.page t.says (s.md_start + place) (λ e. super_outside s placed place low (sym e))
+        ∙ elsewhere d x t.running.runs t.page t.says (s.md_start + place)
+        (λ e. super_outside s placed place low (sym e))
         ∙ old.written t.running.runs t.running.job t.running.is place among_j
         ∙ ap (λ l. planned_in l place) t.running.next
         ∙ ap (λ (i : JobState). planned_in i.todo place) same;

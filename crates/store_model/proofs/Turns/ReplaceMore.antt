@@ -23,7 +23,8 @@ module _ {D : Type 0} (d : Ghosts D) (x : Over d) (t : ReplacesMore d.tells x.p 
       → ImageLaw d x (left_by
       (replaces (page_of_place p t.replacing.head) (page_in t.replacing.planned t.replacing.head) true)
       (d.images from) (d.now from))
-  images does = head_images d x t.replacing None t.running _ t.next refl (record t.running.job { claimed = [] }) refl refl refl t.moves
+  images does = head_images d x t.replacing None t.running _ t.next refl (record t.running.job { claimed = [] }) refl
+      refl refl t.moves
       (unchanged (sym (ap (λ (v : StoreState). v.log) t.next))) does
 
 pub law : TurnLaw case.kind

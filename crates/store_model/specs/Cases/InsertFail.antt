@@ -13,8 +13,8 @@ use Rattle.store_model.specs.StoreState.{JobState, StoreState}
 use Rattle.store_model.specs.Touches.{puts, replaces, Touch, TurnKind}
 use Rattle.store_model.specs.Turning.{FailsToReplace, page_of_place, put_by, Runs, stopped_now}
 
--- what was being written: the super block, to say that the store is in use; a page at a place that the job holds; or the
--- head
+-- what was being written: the super block, to say that the store is in use; a page at a place that the job holds; or
+-- the head
 pub data TriedInsert (s : Super) (j : JobState) (phase : Phase) : Type 0 where
   mark : (content : List ℕ) → phase ≡ Marks → SaysInUse s content → TriedInsert s j phase
   page : (put : PlannedPage) → put_by j phase ≡ Some put → TriedInsert s j phase

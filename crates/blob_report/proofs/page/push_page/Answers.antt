@@ -7,7 +7,8 @@ returns-then-repeats_word-clause-ok c =
     subst (λ (l : List ℕ). OnOk c.push_pieces.result
     (c.push_pieces.new.into.items ≡ c.args.into.now.items ++ l))
     (filled_text c.args.page.now c.repeats_word.result c.repeats_word.ensures c.if-repeats_word.true
-    c.first_word-word.result c.first_word-word.ensures c.to_be_bytes.result c.to_be_bytes.ensures) c.push_pieces.ensures.ok
+    c.first_word-word.result c.first_word-word.ensures c.to_be_bytes.result c.to_be_bytes.ensures)
+    c.push_pieces.ensures.ok
 
 pub returns-clause-ok : goal.returns-clause-ok
 returns-clause-ok c =

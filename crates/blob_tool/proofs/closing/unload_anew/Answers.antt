@@ -16,7 +16,8 @@ returns-in_err-mark_dirty-clause-any_moment g c told =
     let s = c.args.sup.now in
     weaker d c.args.disk.now c.mark_dirty.new.disk _ _ (c.mark_dirty.ensures.any_moment told)
     (marking_closes s c.args.masks.now (c.unloaded_masks_are_read.ensures.apart s c.requires.faultless)
-    (d.images c.args.disk.now) (d.now c.args.disk.now) _ ((g.met.D.PageDisk.telling told).reads_an_image c.args.disk.now)
+    (d.images c.args.disk.now) (d.now c.args.disk.now) _
+    ((g.met.D.PageDisk.telling told).reads_an_image c.args.disk.now)
     c.mark_dirty.ensures.read)
 
 -- the masks fit a store whether it is clean or not
@@ -56,4 +57,5 @@ returns-clause-unloaded g c told =
     on_ok_weaker c.unload.result
     (λ x. marked_left s masks (d.now mid) (d.now c.unload.new.disk)
     (subst (λ (t : Super). IsUnloaded t masks (d.now mid) (d.now c.unload.new.disk)) dirty x))
-    (c.unload.ensures.unloaded told (λ bad. let zero : 0 ≡ 1 = sym (ap (λ (t : Super). t.clean) dirty) ∙ bad in cc zero))
+    (c.unload.ensures.unloaded told
+    (λ bad. let zero : 0 ≡ 1 = sym (ap (λ (t : Super). t.clean) dirty) ∙ bad in cc zero))

@@ -61,8 +61,10 @@ returns g c script rows made unmarked =
     let masks = c.into_parts-disk.result.masks in
     let closes : Closes d sup masks store.at.disk back c.args.quick (length store.at.log) c.stopped-stopped.result
     c.close-ended.result =
-    subst (λ n. Closes d sup masks store.at.disk back c.args.quick n c.stopped-stopped.result c.close-ended.result) count
-    (subst (λ disk. Closes d sup masks disk back c.args.quick c.len.result c.stopped-stopped.result c.close-ended.result)
+    subst (λ n. Closes d sup masks store.at.disk back c.args.quick n c.stopped-stopped.result c.close-ended.result)
+    count
+    (subst (λ disk. Closes d sup masks disk back c.args.quick c.len.result c.stopped-stopped.result
+    c.close-ended.result)
     c.into_parts-disk.ensures.disk
     (subst (λ s. Closes d s masks c.into_parts-disk.result.disk back c.args.quick c.len.result c.stopped-stopped.result
     c.close-ended.result) c.into_parts-disk.ensures.sup c.close-ended.ensures)) in
@@ -102,7 +104,8 @@ returns g c script rows made unmarked =
     (Ended d script c.args.schedule.now c.args.from k c.args.out.now c.report-printed.new.out back store.opening)
     (sym c.of_run.ensures)
     (ends d script c.args.schedule.now c.args.from k c.args.out.now c.report-printed.new.out back store.opening played
-    c.args.quick c.stopped-stopped.result c.close-ended.result c.report-printed.result (sym c.stopped-stopped.ensures) closes
+    c.args.quick c.stopped-stopped.result c.close-ended.result c.report-printed.result
+    (sym c.stopped-stopped.ensures) closes
     (λ closed runs sound. lasting d laws law store kept c.args.quick read sound runs masks
     (c.into_parts-disk.ensures.masks runs) back
     (at_opening d laws law store kept c.args.quick read masks back

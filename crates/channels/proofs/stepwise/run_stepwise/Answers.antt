@@ -41,5 +41,6 @@ returns-clause-unused g c =
     let d = g.D.PageDisk in
     let v = c.run.new.self in
     let kept = subst (StoreInvariant d) c.into_parts-plant.ensures.0 c.keeps.ensures in
-    subst (λ (p : WithOpening g.row.D.Denot). rows_of p.at.rows fill_row ≡ unused_row) (sym c.into_parts-plant.ensures.0)
+    subst (λ (p : WithOpening g.row.D.Denot). rows_of p.at.rows fill_row ≡ unused_row)
+    (sym c.into_parts-plant.ensures.0)
     (row_unused d v.plant kept v.channels v.queue v.metadata c.run.ensures.follows.ended_then c.state_turns.ensures)

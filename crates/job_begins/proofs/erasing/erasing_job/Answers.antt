@@ -68,7 +68,8 @@ returns-clause-begins g c =
     }))) (sym c.new.ensures)
     (subst (λ (l : List LaidReplacement). Begins (state_of d p) (state_of d (record p {
       rows = slice_set p.rows c.args.channel (record (rows_of p.rows c.args.channel) { stage = InJob });
-      job = Some (marked p.clean (removing_for (whom.Command c.args.channel None) (erasing c.args.head c.in_ok-freed.freed)
+      job = Some
+          (marked p.clean (removing_for (whom.Command c.args.channel None) (erasing c.args.head c.in_ok-freed.freed)
           c.in_ok-old.old (phases_in l)));
     }))) (sym c.new-2.ensures.items)
     (begins_erasing d p c.args.channel c.requires.posted c.requires.running c.requires.unmarked c.requires.runs no_job

@@ -37,7 +37,8 @@ returns-clause-begins g c =
     let chain = chain_there g.D.PageDisk p c.requires.running c.requires.runs no_job c.args.head c.requires.due
     c.requires.order.resolves c.requires.removed c.in-Some.meta.now at in
     subst (λ (l : List LaidReplacement). BeginsRepair (state_of g.D.PageDisk p) (state_of g.D.PageDisk (record p {
-      job = Some (marked p.clean (removing_for whom.Repair (record { head = c.args.head; commit = None; freed = c.in_ok-freed.freed })
+      job = Some (marked p.clean
+          (removing_for whom.Repair (record { head = c.args.head; commit = None; freed = c.in_ok-freed.freed })
           c.in_ok-old.old (phases_in l)));
     }))) (sym c.new.ensures.items)
     (removes g.D.PageDisk p c.requires.running c.requires.runs no_job c.args.head c.requires.due

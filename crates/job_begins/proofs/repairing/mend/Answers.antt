@@ -64,7 +64,8 @@ returns-in-Ok-clause-begins g c =
     let d = g.D.PageDisk in
     let p = view_of c.args.running.now in
     subst (λ (j : JobState). BeginsRepair (state_of d p)
-    (state_of d (record p { pages = c.prepare.new.pages.bits; job = Some (marked p.clean j) }))) (sym c.alone.ensures.seen)
+    (state_of d (record p { pages = c.prepare.new.pages.bits; job = Some (marked p.clean j) })))
+    (sym c.alone.ensures.seen)
     (mends d p c.requires.running c.requires.runs (ap (λ o. option_map job_seen o) c.requires.no_job) c.args.head
     c.requires.due c.requires.order.resolves c.args.new c.requires.kept c.prepare.new.pages.bits c.in-Ok.prepared
     c.in-Ok.ensures.prepared)

@@ -44,7 +44,8 @@ returns-in-Copied-clause-moves g c = λ low posted works.
     let p = c.args.plant.now.at in
     let q = c.copy_page.new.self.at in
     let now = stands d c.state_turns.ensures c.args.plant.now c.keeps.ensures in
-    let only = subst (λ turn. RowsCopied turn p.filling p.rows q.rows fill_row) c.in-Copied.is c.copy_page.ensures.rows in
+    let only = subst (λ turn. RowsCopied turn p.filling p.rows q.rows fill_row) c.in-Copied.is c.copy_page.ensures.rows
+    in
     on_copies d p q now c.args.msg.channel only.others (c.copy_page.ensures.copied _ c.in-Copied.is)
 
 pub returns-in-Copied-clause-repaired : goal.returns-in-Copied-clause-repaired
@@ -107,7 +108,8 @@ returns-in-Logged-send_ready-clause-moves g c = λ low posted works.
     let now = stands d c.state_turns.ensures c.args.plant.now c.keeps.ensures in
     let at = stage_for (rows_of p.rows fill_row) fill_row now.left (_) (sym c.stage.ensures ∙ c.in-Ready.is) in
     let gave = gave_stage p.filling p.rows q.rows Idle
-    (subst (λ turn. RowsSent turn p.filling p.rows q.rows fill_row) c.in-Logged-send_ready.is c.send_ready.ensures.rows) in
+    (subst (λ turn. RowsSent turn p.filling p.rows q.rows fill_row) c.in-Logged-send_ready.is
+    c.send_ready.ensures.rows) in
     ended_send d p q now (λ e. let bad : Idle ≡ Ready = sym gave ∙ e ∙ at in cc bad) c.args.msg.channel works
     (λ e. let bad : Ready ≡ Idle = sym at ∙ e in cc bad) (c.send_ready.ensures.logged c.in-Logged-send_ready.is)
 
@@ -130,7 +132,8 @@ returns-in-Began-clause-moves g c = λ low posted works.
     let at = stage_for (rows_of p.rows fill_row) fill_row now.left (_) (sym c.stage.ensures ∙ c.in-Posted.is) in
     let here = ap (λ (m : Msg). m.channel) at.1 in
     let only = subst (λ n. RowsInserting insert.Began p.filling p.rows q.rows n) here
-    (subst (λ turn. RowsInserting turn p.filling p.rows q.rows c.in-Posted.own.channel) c.in-Began.is c.begin_insert.ensures.rows) in
+    (subst (λ turn. RowsInserting turn p.filling p.rows q.rows c.in-Posted.own.channel) c.in-Began.is
+    c.begin_insert.ensures.rows) in
     on_begins d p q now
     (λ e. let bad : InJob ≡ Posted _ = sym (ap (λ (r : Row). r.stage) only.row) ∙ e ∙ at.0 in cc bad) c.args.msg.channel
     (by_stop p.stopped
@@ -146,9 +149,11 @@ returns-in-Decided-begin_insert-clause-moves g c = λ low posted works.
     let at = stage_for (rows_of p.rows fill_row) fill_row now.left (_) (sym c.stage.ensures ∙ c.in-Posted.is) in
     let here = ap (λ (m : Msg). m.channel) at.1 in
     let only = subst (λ n. RowsInserting insert.Decided p.filling p.rows q.rows n) here
-    (subst (λ turn. RowsInserting turn p.filling p.rows q.rows c.in-Posted.own.channel) c.in-Decided-begin_insert.is c.begin_insert.ensures.rows) in
+    (subst (λ turn. RowsInserting turn p.filling p.rows q.rows c.in-Posted.own.channel) c.in-Decided-begin_insert.is
+    c.begin_insert.ensures.rows) in
     on_loses d p q now
-    (λ e. let bad : Decided Lost ≡ Posted _ = sym (ap (λ (r : Row). r.stage) only.row) ∙ e ∙ at.0 in cc bad) c.args.msg.channel
+    (λ e. let bad : Decided Lost ≡ Posted _ = sym (ap (λ (r : Row). r.stage) only.row) ∙ e ∙ at.0 in cc bad)
+    c.args.msg.channel
     (by_stop p.stopped
     (λ e. subst (InsertsOrNot d p q) c.in-Decided-begin_insert.is (c.begin_insert.ensures.begins e))
     (λ e. let bad = sym c.in-Decided-begin_insert.is ∙ (c.begin_insert.ensures.halted e).0 in absurd (cc bad)))
@@ -161,8 +166,10 @@ returns-in-Logged-begin_insert-clause-moves g c = λ low posted works.
     let now = stands d c.state_turns.ensures c.args.plant.now c.keeps.ensures in
     let at = stage_for (rows_of p.rows fill_row) fill_row now.left (_) (sym c.stage.ensures ∙ c.in-Posted.is) in
     let here = ap (λ (m : Msg). m.channel) at.1 in
-    let gave = gave_stage p.filling p.rows q.rows (Decided Answered) (subst (λ n. RowsInserting insert.Logged p.filling p.rows q.rows n) here
-    (subst (λ turn. RowsInserting turn p.filling p.rows q.rows c.in-Posted.own.channel) c.in-Logged-begin_insert.is c.begin_insert.ensures.rows)) in
+    let gave = gave_stage p.filling p.rows q.rows (Decided Answered)
+    (subst (λ n. RowsInserting insert.Logged p.filling p.rows q.rows n) here
+    (subst (λ turn. RowsInserting turn p.filling p.rows q.rows c.in-Posted.own.channel) c.in-Logged-begin_insert.is
+    c.begin_insert.ensures.rows)) in
     let changed : (rows_of q.rows fill_row).stage ≢ (rows_of p.rows fill_row).stage =
     λ e. let bad : Decided Answered ≡ Posted _ = sym gave ∙ e ∙ at.0 in cc bad in
     by_stop p.stopped
@@ -219,7 +226,8 @@ returns-in-Decided-clause-moves g c = λ low posted works.
     let at = stage_for (rows_of p.rows fill_row) fill_row now.left _ (sym c.stage.ensures ∙ c.in-Decided.is) in
     let moved : c.settle.result ≢ Waiting = λ e. (c.settle.ensures.waiting e).1 at.0 at.1 in
     on_settles d p q now
-    (λ e. let bad : Idle ≡ Decided _ = sym (ap (λ (r : Row). r.stage) (c.settle.ensures.row moved).row) ∙ e ∙ at.1 in cc bad)
+    (λ e. let bad : Idle ≡ Decided _ = sym (ap (λ (r : Row). r.stage) (c.settle.ensures.row moved).row) ∙ e
+    ∙ at.1 in cc bad)
     c.args.msg.channel (c.settle.ensures.settled moved)
 
 pub returns-in-Decided-clause-repaired : goal.returns-in-Decided-clause-repaired

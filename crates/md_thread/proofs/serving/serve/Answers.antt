@@ -65,23 +65,27 @@ pub returns-in-Insert-clause-repaired : goal.returns-in-Insert-clause-repaired
 returns-in-Insert-clause-repaired g c =
     let d = g.D.PageDisk in
     turned d c.state_turns.ensures c.args.plant.now c.begin_insert.new.self c.keeps.ensures
-    (some_insert d c.args.plant.now.at c.begin_insert.new.self.at c.begin_insert.result c.args.msg.channel c.begin_insert.ensures.begins
+    (some_insert d c.args.plant.now.at c.begin_insert.new.self.at c.begin_insert.result c.args.msg.channel
+    c.begin_insert.ensures.begins
     c.begin_insert.ensures.halted) c.requires.repaired
 
 pub returns-in-Answer-clause-repaired : goal.returns-in-Answer-clause-repaired
 returns-in-Answer-clause-repaired g c =
     let d = g.D.PageDisk in
     turned d c.state_turns.ensures c.args.plant.now c.answer.new.self c.keeps.ensures
-    (some_logged d c.args.plant.now.at c.answer.new.self.at kind.answers c.answer.ensures.answered c.answer.ensures.halted) c.requires.repaired
+    (some_logged d c.args.plant.now.at c.answer.new.self.at kind.answers c.answer.ensures.answered
+    c.answer.ensures.halted) c.requires.repaired
 
 pub returns-in-Refuse-clause-repaired : goal.returns-in-Refuse-clause-repaired
 returns-in-Refuse-clause-repaired g c =
     let d = g.D.PageDisk in
     turned d c.state_turns.ensures c.args.plant.now c.refuse.new.self c.keeps.ensures
-    (some_logged d c.args.plant.now.at c.refuse.new.self.at kind.refuses c.refuse.ensures.refused c.refuse.ensures.halted) c.requires.repaired
+    (some_logged d c.args.plant.now.at c.refuse.new.self.at kind.refuses c.refuse.ensures.refused
+    c.refuse.ensures.halted) c.requires.repaired
 
 pub returns-in-Begin-clause-repaired : goal.returns-in-Begin-clause-repaired
 returns-in-Begin-clause-repaired g c =
     let d = g.D.PageDisk in
     turned d c.state_turns.ensures c.args.plant.now c.begin_job.new.self c.keeps.ensures
-    (some_begin d c.args.plant.now.at c.begin_job.new.self.at c.begin_job.result c.begin_job.ensures.begins c.begin_job.ensures.halted) c.requires.repaired
+    (some_begin d c.args.plant.now.at c.begin_job.new.self.at c.begin_job.result c.begin_job.ensures.begins
+    c.begin_job.ensures.halted) c.requires.repaired

@@ -156,6 +156,7 @@ returns-in-Rename g c =
 
 pub returns-in_default : goal.returns-in_default
 returns-in_default g c =
-    answerable c.args.command.now c.requires.for_metadata c.requires.unfilled c.in_default.not-Create c.in_default.not-Put c.in_default.not-Sync
+    answerable c.args.command.now c.requires.for_metadata c.requires.unfilled c.in_default.not-Create
+    c.in_default.not-Put c.in_default.not-Sync
     c.in_default.not-ReadOnly c.in_default.not-Resize c.in_default.not-Clone c.in_default.not-Rename
     c.in_default.not-Snapshot c.in_default.not-Delete

@@ -5,7 +5,8 @@ use Rattle.metadata_turns.proofs.job_turn.break_down.Goals as goal
 
 pub give_up-requires-clause-works : goal.give_up-requires-clause-works
 give_up-requires-clause-works g c =
-    waiting_works g.D.PageDisk (view_of c.args.running.now) c.requires.running c.requires.work c.requires.order.seventeen
+    waiting_works g.D.PageDisk (view_of c.args.running.now) c.requires.running c.requires.work
+    c.requires.order.seventeen
     c.in-Some.row
     (waits_either c.args.running.now.job c.in-Some.row (sym c.waiting_for-waiting.ensures ∙ c.in-Some.is))
 

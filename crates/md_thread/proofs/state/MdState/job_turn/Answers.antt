@@ -34,7 +34,8 @@ returns-then-is_err-clause-made g c = λ kept.
     let p = c.args.plant.now.at in
     let q = c.job_turn.new.self.at in
     let now = stands d c.state_turns.ensures c.args.plant.now c.keeps.ensures in
-    subst (λ (x : MetadataState). JobMade d.tells (state_of d p) (state_of d q) c.args.self.now x) (sym c.let_go.ensures)
+    subst (λ (x : MetadataState). JobMade d.tells (state_of d p) (state_of d q) c.args.self.now x)
+    (sym c.let_go.ensures)
     (made_stale d p q now c.args.self.now kept c.in-Some.msg (sym c.worked_for.ensures ∙ c.in-Some.is)
     (stale_now q.rows c.in-Some.msg c.request.result c.request.ensures.stale
     (c.is_err.ensures.value) c.if-is_err.true) c.job_turn.ensures.case)

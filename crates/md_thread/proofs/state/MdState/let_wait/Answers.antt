@@ -6,7 +6,8 @@ use Rattle.running_store.specs.StoreView.{rows_of, state_of}
 use Rattle.md_thread.specs.contracts.state.MdState.{the_view}
 use Rattle.md_thread.specs.Holding.{IsKept, MetadataState}
 use Rattle.md_thread.specs.Turns.{HasJoined}
-use Rattle.md_thread.proofs.Joining.{joined_alone, joined_command, joined_insert, joined_none, kept_waiting, waiting_too}
+use Rattle.md_thread.proofs.Joining.{joined_alone, joined_command, joined_insert, joined_none, kept_waiting}
+use Rattle.md_thread.proofs.Joining.{waiting_too}
 use Rattle.md_thread.proofs.StandsNow.{works_for_none}
 use Rattle.md_thread.proofs.StepsDue.{unused}
 use Rattle.md_thread.proofs.state.MdState.let_wait.Goals as goal

@@ -140,7 +140,8 @@ returns-in-Some-clause-stale g c = λ none msg comes stale.
           sym own ∙ ap (λ (x : MetadataState). x.held) same ∙ held in
           let is : c.in-Some.msg ≡ msg = cc both in
           let kept = c.serve.ensures.stale
-          (subst (λ (m : Msg). (rows_of c.args.plant.now.at.rows m.channel).stage ≢ Posted m.serial) (sym is) stale) in (
+          (subst (λ (m : Msg). (rows_of c.args.plant.now.at.rows m.channel).stage ≢ Posted m.serial) (sym is) stale)
+          in (
             refl,
             kept.0,
             kept.1 ∙ ap (λ o. record (the_view c.self.inside) { held = o }) c.take.ensures.after

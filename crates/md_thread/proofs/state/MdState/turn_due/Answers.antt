@@ -37,7 +37,8 @@ returns-then-not-fill_row_is_over-clause-repaired g c =
 
 pub returns-then-job_runs-clause-stale : goal.returns-then-job_runs-clause-stale
 returns-then-job_runs-clause-stale g c = λ none over fill msg comes stale.
-    absurd (let bad = sym (ap (λ (j : Option JobState). is_some j) none) ∙ sym c.job_runs.ensures ∙ c.if-job_runs.true in
+    absurd (let bad = sym (ap (λ (j : Option JobState). is_some j) none) ∙ sym c.job_runs.ensures
+    ∙ c.if-job_runs.true in
     cc bad)
 
 pub returns-then-not-fill_row_is_over-clause-stale : goal.returns-then-not-fill_row_is_over-clause-stale
@@ -52,7 +53,8 @@ returns-then-not-fill_row_is_over-clause-job g c = λ runs.
 
 pub returns-then-job_runs-clause-message : goal.returns-then-job_runs-clause-message
 returns-then-job_runs-clause-message g c = λ none over fill msg comes low posted.
-    absurd (let bad = sym (ap (λ (j : Option JobState). is_some j) none) ∙ sym c.job_runs.ensures ∙ c.if-job_runs.true in
+    absurd (let bad = sym (ap (λ (j : Option JobState). is_some j) none) ∙ sym c.job_runs.ensures
+    ∙ c.if-job_runs.true in
     cc bad)
 
 pub returns-then-not-fill_row_is_over-clause-message : goal.returns-then-not-fill_row_is_over-clause-message
@@ -61,7 +63,8 @@ returns-then-not-fill_row_is_over-clause-message g c = λ none over fill msg com
 
 pub returns-then-job_runs-clause-nothing : goal.returns-then-job_runs-clause-nothing
 returns-then-job_runs-clause-nothing g c = λ none over held fill waits.
-    absurd (let bad = sym (ap (λ (j : Option JobState). is_some j) none) ∙ sym c.job_runs.ensures ∙ c.if-job_runs.true in
+    absurd (let bad = sym (ap (λ (j : Option JobState). is_some j) none) ∙ sym c.job_runs.ensures
+    ∙ c.if-job_runs.true in
     cc bad)
 
 pub returns-then-not-fill_row_is_over-clause-nothing : goal.returns-then-not-fill_row_is_over-clause-nothing
