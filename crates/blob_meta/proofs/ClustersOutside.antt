@@ -10,14 +10,14 @@ use Rattle.std.specs.Option.{option_or}
 use Rattle.volume_model.specs.declared.lists.SlotRun.{SlotRun}
 use Rattle.descriptors.specs.Slots.{run_slots, filled_slots}
 use Rattle.descriptors.specs.Runs.{cluster_of, slots_of_run, slots_in}
-use Rattle.blob_meta.specs.Faults.{is_outside, clusters_of}
+use Rattle.blob_meta.specs.Faults.{is_outside, clusters_held}
 
 abbrev pub first_outside : ℕ → ℕ → List (Option ℕ) → Option ℕ
-first_outside fixed clusters map = find (is_outside fixed clusters) (clusters_of map)
+first_outside fixed clusters map = find (is_outside fixed clusters) (clusters_held map)
 
 -- ---- one run
 
-no_clusters : (n : ℕ) → clusters_of (replicate n None) ≡ []
+no_clusters : (n : ℕ) → clusters_held (replicate n None) ≡ []
 no_clusters zero = refl
 no_clusters (suc n) = no_clusters n
 
@@ -74,7 +74,7 @@ module _ (fixed clusters : ℕ) where
 -- ---- several runs
 
 -- the clusters of two maps, one after the other
-pub clusters-append : (xs ys : List (Option ℕ)) → clusters_of (xs ++ ys) ≡ clusters_of xs ++ clusters_of ys
+pub clusters-append : (xs ys : List (Option ℕ)) → clusters_held (xs ++ ys) ≡ clusters_held xs ++ clusters_held ys
 clusters-append [] ys = refl
 clusters-append (None ∷ xs) ys = clusters-append xs ys
 clusters-append (Some c ∷ xs) ys = ap (λ l. c ∷ l) (clusters-append xs ys)
@@ -93,4 +93,4 @@ module _ (fixed clusters : ℕ) where
       let rest = slots_in (drop (i + 1) runs) in
       ap (λ (l : List SlotRun). first_outside fixed clusters (slots_in l)) cut
       ∙ ap (find (is_outside fixed clusters)) (clusters-append run rest)
-      ∙ find-append (is_outside fixed clusters) (clusters_of run) (clusters_of rest)
+      ∙ find-append (is_outside fixed clusters) (clusters_held run) (clusters_held rest)

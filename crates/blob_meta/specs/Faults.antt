@@ -31,13 +31,13 @@ abbrev pub is_outside : ℕ → ℕ → ℕ → Bool
 is_outside fixed clusters cluster = nat_lt cluster fixed || nat_le clusters cluster
 
 -- the clusters that slots hold
-abbrev pub clusters_of : List (Option ℕ) → List ℕ
-clusters_of map = filter_map (λ slot. slot) map
+abbrev pub clusters_held : List (Option ℕ) → List ℕ
+clusters_held map = filter_map (λ slot. slot) map
 
 -- the first cluster that a blob may not have
 abbrev pub cluster_outside : ℕ → ℕ → List (Option ℕ) → Option MetaFault
 cluster_outside fixed clusters map = option_map faults.ClusterOutside
-    (find (is_outside fixed clusters) (clusters_of map))
+    (find (is_outside fixed clusters) (clusters_held map))
 
 -- a blob that isn't thin has no empty slot
 abbrev pub is_thin : Flags → Bool

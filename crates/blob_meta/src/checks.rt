@@ -4,7 +4,7 @@ ghost use Rattle.std.specs.Prelude.{◌≡◌, ◌^◌, ◌<◌, ◌≤◌, OnOk
 ghost use Rattle.std.specs.Prelude.{is_none, option_copied};
 ghost use Rattle.std.specs.List.{All};
 ghost use Rattle.descriptors.specs.Runs.{slots_in, slots_of_run, Reaches};
-ghost use Rattle.blob_meta.specs.Faults.{unknown_flag as unknown, too_large as large, is_outside, clusters_of};
+ghost use Rattle.blob_meta.specs.Faults.{unknown_flag as unknown, too_large as large, is_outside, clusters_held};
 ghost use Rattle.blob_meta.specs.Faults.{cluster_outside as outside, hole_in_thick as hole, is_mark as is_a_mark};
 ghost use Rattle.blob_meta.specs.Faults.{is_bad_mark, bad_mark as bad, IsMetaFaultOf};
 
@@ -40,7 +40,7 @@ pub fn too_large(runs: &RunList) -> Option<MetaFault>
 
 /// The first cluster of a run that a blob may not have.
 fn outside_of_run(run: SlotRun, fixed: u32, clusters: u32) -> Option<u64>
-    ensures first { result ≡ find (is_outside fixed clusters) (clusters_of (slots_of_run run)) }
+    ensures first { result ≡ find (is_outside fixed clusters) (clusters_held (slots_of_run run)) }
     ensures reaches { OnNone result (Reaches run) }
 {
     if run.cluster == 0 || run.length == 0 {
@@ -60,7 +60,7 @@ fn outside_of_run(run: SlotRun, fixed: u32, clusters: u32) -> Option<u64>
 }
 
 fn outside_of_runs(runs: &[SlotRun], fixed: u32, clusters: u32) -> Option<u64>
-    ensures first { result ≡ find (is_outside fixed clusters) (clusters_of (slots_in runs.now)) }
+    ensures first { result ≡ find (is_outside fixed clusters) (clusters_held (slots_in runs.now)) }
     ensures reaches { OnNone result (All Reaches runs.now) }
 {
     for run in runs {

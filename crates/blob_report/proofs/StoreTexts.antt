@@ -11,7 +11,7 @@ use Rattle.volume_model.specs.Volumes.{is_given_head}
 use Rattle.volume_model.specs.declared.reply.Df.{Df}
 use Rattle.blob_report.specs.Pieces.{shown_bytes}
 use Rattle.blob_meta.specs.Parents.{head_of_id}
-use Rattle.blob_report.specs.StoreText.{line_of, Metas, volume_text}
+use Rattle.blob_report.specs.StoreText.{line_of, MetasByHead, volume_text}
 
 regroup : (a b c d e f g h i j k l m n o : List ℕ)
     → a ++ (b ++ (c ++ (d ++ (e ++ (f ++ (g ++ (h ++ (i ++ (j ++ (k ++ (l ++ (m ++ (n ++ (o ++ [])))))))))))))) ≡ a ++ b
@@ -70,7 +70,7 @@ no_line_more f head before first now none is =
     one_more f head before first now now is (sym (append-nil now) ∙ ap (λ text. now ++ text) (sym none))
 
 -- where no blob is there is no line
-pub no_blob_line : (sup : Super) (metas : Metas) (head : ℕ) → map.get metas head ≡ None
+pub no_blob_line : (sup : Super) (metas : MetasByHead) (head : ℕ) → map.get metas head ≡ None
     → volume_text sup metas head ≡ []
 no_blob_line sup metas head none = elim (cases_Bool (is_given_head head (head_of_id sup.super_blob))) [
   | inl is ↦ rw is refl

@@ -20,19 +20,19 @@ use Rattle.blob_report.specs.Pieces.{head_text, shown_bytes}
 use Rattle.blob_report.specs.Text.{filling_text, writing_text}
 
 -- the metadata of blobs, by their heads
-abbrev pub Metas : Type 0
-Metas = map.FinMap nat_cmp Meta
+abbrev pub MetasByHead : Type 0
+MetasByHead = map.FinMap nat_cmp Meta
 
 -- how many places aren't in a set
-abbrev pub clear_in : List Bool → ℕ
-clear_in bits = length bits - member_count bits
+abbrev pub places_free : List Bool → ℕ
+places_free bits = length bits - member_count bits
 
 -- how many clusters and metadata pages a store has, and how many of each are free
 abbrev pub space_of : Super → Masks → Df
 space_of sup masks = record {
-  free_clusters = clear_in masks.clusters;
+  free_clusters = places_free masks.clusters;
   clusters = clusters_of sup;
-  free_pages = clear_in masks.pages;
+  free_pages = places_free masks.pages;
   pages = sup.md_len;
 }
 
@@ -75,7 +75,7 @@ abbrev pub volume_line : ℕ → Meta → List ℕ
 volume_line head m = named_text head m ++ slots_text m
 
 -- the line of the blob at a head, if one is there
-abbrev pub line_at : (ℕ → Meta → List ℕ) → Metas → ℕ → List ℕ
+abbrev pub line_at : (ℕ → Meta → List ℕ) → MetasByHead → ℕ → List ℕ
 line_at line metas head = option_map_or (line head) (map.get metas head) []
 
 -- the head of the super blob, a place of the metadata region, if the super block names one
@@ -84,19 +84,19 @@ super_head sup =
     option_and_then (λ head. if nat_lt head sup.md_len then Some head else None) (head_of_id sup.super_blob)
 
 -- the line of the super blob, if there is one
-abbrev pub super_text : Super → Metas → List ℕ
+abbrev pub super_text : Super → MetasByHead → List ℕ
 super_text sup metas = option_map_or (line_at super_line metas) (super_head sup) []
 
 -- the line of the volume at a head: the super blob is none
-abbrev pub volume_text : Super → Metas → ℕ → List ℕ
+abbrev pub volume_text : Super → MetasByHead → ℕ → List ℕ
 volume_text sup metas head =
     if is_given_head head (head_of_id sup.super_blob) then [] else line_at volume_line metas head
 
 -- the store, its super blob, and its volumes by ascending head
-abbrev pub text_of : Super → Metas → Masks → List ℕ
-text_of sup metas masks =
+abbrev pub text_of_store : Super → MetasByHead → Masks → List ℕ
+text_of_store sup metas masks =
     store_line sup masks ++ super_text sup metas ++ flat_map (volume_text sup metas) (range_with_len 0 sup.md_len)
 
 -- the text of a store as it was loaded
 abbrev pub store_text : {D : Type 0} → Loaded D → List ℕ
-store_text loaded = text_of loaded.sup loaded.metas loaded.masks
+store_text loaded = text_of_store loaded.sup loaded.metas loaded.masks

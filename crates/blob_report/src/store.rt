@@ -34,7 +34,7 @@ fn until_nul(bytes: &[u8]) -> &[u8]
 
 /// How many places of a mask are clear.
 fn clear_count(mask: &Bits) -> u32
-    ensures { result ≡ said.clear_in mask.now }
+    ensures { result ≡ said.places_free mask.now }
 {
     mask.len() - mask.count()
 }
@@ -146,7 +146,7 @@ fn push_volume_line(sup: &Super, metas: &Metas, head: u32, into: &mut Vec<u8>) -
 /// Appends the text of a store. After `Memory` what was there still stands first.
 fn push_text(sup: &Super, metas: &Metas, masks: &Masks, into: &mut Vec<u8>) -> Result<(), Memory>
     requires { IsFaultless sup.now }
-    ensures ok { OnOk result (into.new.items ≡ into.old.items ++ said.text_of sup.now metas.now masks.now) }
+    ensures ok { OnOk result (into.new.items ≡ into.old.items ++ said.text_of_store sup.now metas.now masks.now) }
     ensures kept { take (length into.old.items) into.new.items ≡ into.old.items }
 {
     push_store(sup, masks, into)?;

@@ -3,7 +3,7 @@ use Rattle.std.proofs.Common.{◌≡◌, ◌≢◌, ◌⊎◌, ⊎_elim, ℕ, �
 use Rattle.std.proofs.Common.{arith}
 use Rattle.std.proofs.Math.Nat.{mul-le-mul_right}
 use Rattle.clean_stop.specs.Masks.{IsMaskPage, MasksFit, StandsApart}
-use Rattle.clean_stop.specs.Stopping.{with_clean, IsPageOf}
+use Rattle.clean_stop.specs.Stopping.{with_clean, IsSuperPage}
 use Rattle.page_disk.specs.Disk.{Image}
 use Rattle.page_runs.specs.Writing.{SameBut}
 use Rattle.super_block.specs.Faults.{super_fault}
@@ -36,7 +36,7 @@ pub record HasSameStore (s : Super) (image other : Image) : Type 0 where
 
 -- a store is there where its super block is, clean or not
 store_of : (s : Super) (left : Bool) (mark : ℕ) (image : Image)
-    → IsPageOf (with_clean mark (super_left left s)) (image 0)
+    → IsSuperPage (with_clean mark (super_left left s)) (image 0)
     → HasStore s image
 store_of s left mark image x = record {
   faultless = x.faultless;

@@ -1,7 +1,7 @@
 -- What an unload may leave is what closing a store may, and so is what marking it first may.
 use Rattle.std.proofs.Common.{◌≡◌, ◌≢◌, ◌⊎◌, ◌∙◌, ℕ, List, refl, sym, ap, subst, inl, inr, arith, IsTrue}
 use Rattle.clean_stop.specs.Masks.{HasMasks, IsMaskPage, StandsApart}
-use Rattle.clean_stop.specs.Stopping.{with_clean, IsPageOf, IsUnloaded, IsUnloading}
+use Rattle.clean_stop.specs.Stopping.{with_clean, IsSuperPage, IsUnloaded, IsUnloading}
 use Rattle.page_disk.specs.Disk.{Image, Images, Only, with_page}
 use Rattle.page_disk.specs.Moments.{IsReplaced}
 use Rattle.page_disk.proofs.Images.{with_page-elsewhere, with_page-here}
@@ -59,7 +59,7 @@ module _ (s : Super) (masks : Masks) (apart : (page : ℕ) → IsMaskPage s page
   }
 
   -- the mark of a store that is closed
-  pub marking_closes : (images : Images) (now : Image) (page : List ℕ) → images now → IsPageOf (with_clean 0 s) page
+  pub marking_closes : (images : Images) (now : Image) (page : List ℕ) → images now → IsSuperPage (with_clean 0 s) page
       → (other : Image) → IsReplaced images now 0 page other → Closing s masks images other
   marking_closes images now page held read other (inl was) = before_closes images other was
   marking_closes images now page held read other (inr is) = record {
@@ -68,12 +68,12 @@ module _ (s : Super) (masks : Masks) (apart : (page : ℕ) → IsMaskPage s page
     others = λ q out.
         ap (λ (i : Image). i q) is ∙ with_page-elsewhere now 0 page q (λ e. out (inl e));
     becomes = in_use
-        (subst (IsPageOf (with_clean 0 s)) (sym (ap (λ (i : Image). i 0) is ∙ with_page-here now 0 page)) read);
+        (subst (IsSuperPage (with_clean 0 s)) (sym (ap (λ (i : Image). i 0) is ∙ with_page-here now 0 page)) read);
   }
 
   -- and its unload, once the mark is the one image
   pub marked_unloading_closes : (images marked : Images) (now mid : Image) (page : List ℕ) → images now
-      → IsPageOf (with_clean 0 s) page → mid ≡ with_page now 0 page → Only mid marked → (other : Image)
+      → IsSuperPage (with_clean 0 s) page → mid ≡ with_page now 0 page → Only mid marked → (other : Image)
       → IsUnloading (with_clean 0 s) masks marked mid other → Closing s masks images other
   unfolding clusters_of
   marked_unloading_closes images marked now mid page held read is only other (inl (before, was, same)) =
@@ -86,7 +86,7 @@ module _ (s : Super) (masks : Masks) (apart : (page : ℕ) → IsMaskPage s page
         others = λ q out.
             same q (λ mask. out (inr mask)) ∙ ap (λ (i : Image). i q) one
             ∙ with_page-elsewhere now 0 page q (λ e. out (inl e));
-        becomes = in_use (subst (IsPageOf (with_clean 0 s)) (sym super) read);
+        becomes = in_use (subst (IsSuperPage (with_clean 0 s)) (sym super) read);
       }
   marked_unloading_closes images marked now mid page held read is only other (inr x) = record {
     image = now;

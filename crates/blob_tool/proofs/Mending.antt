@@ -9,7 +9,7 @@ use Rattle.page_disk.specs.declared.disk.PageDisk.{Ghosts}
 use Rattle.volume_model.specs.declared.reply.Entry.{Entry}
 use Rattle.metadata_turns.specs.JobTurns.{IsOfJob, TurnsJob}
 use Rattle.repair_runs.specs.RepairLaws.{GoesOnMending, RepairLaws}
-use Rattle.repair_runs.specs.RepairRuns.{marks_left, turns_left, IsMending, IsOfInsert, IsOfRepair, RepairRun}
+use Rattle.repair_runs.specs.RepairRuns.{marks_left, store_turns_left, IsMending, IsOfInsert, IsOfRepair, RepairRun}
 use Rattle.store_core.specs.StoreInvariant.{opening_script, StoreInvariant}
 use Rattle.running_store.specs.StoreView.{rows_of, state_of, StoreView, WithOpening}
 use Rattle.store_model.specs.Cases.{Kind, Run, the}
@@ -121,7 +121,7 @@ module _ {D : Type 0} (d : Ghosts D) where
     }
 
     -- fewer turns are left
-    pub fewer_left : turns_left (state_of d r) < turns_left (state_of d q)
+    pub fewer_left : store_turns_left (state_of d r) < store_turns_left (state_of d q)
     fewer_left = goes.fewer
 
   -- the job is done, or the store has stopped

@@ -1,7 +1,7 @@
 -- How the device of a run is left behind the last turn.
 use Rattle.std.specs.Prelude.{◌≡◌, ◌≢◌, ◌⊎◌, ℕ, Bool, true, false, Option, Some, None, IsTrue}
 use Rattle.clean_stop.specs.Masks.{HasMasks, IsMaskPage}
-use Rattle.clean_stop.specs.Stopping.{with_clean, IsPageOf}
+use Rattle.clean_stop.specs.Stopping.{with_clean, IsSuperPage}
 use Rattle.page_disk.specs.Disk.{Image, Images, Only, Rose}
 use Rattle.page_disk.specs.Moments.{CallsLeaveOnly}
 use Rattle.page_disk.specs.declared.disk.PageDisk.{Ghosts}
@@ -11,7 +11,7 @@ use Rattle.super_block.specs.declared.page.Super.{Super}
 
 -- The super block says that the store is clean, beside whole masks.
 pub record IsCleanWith (s : Super) (masks : Masks) (image : Image) : Type 0 where
-  pub super : IsPageOf (with_clean 1 s) (image 0)
+  pub super : IsSuperPage (with_clean 1 s) (image 0)
   pub whole : HasMasks s masks image
 
 -- Of a store with this super block an image becomes another one, of which the super block or the masks may be others:
@@ -20,7 +20,7 @@ pub record IsCleanWith (s : Super) (masks : Masks) (image : Image) : Type 0 wher
 pub data Becomes (s : Super) (masks : Masks) (image other : Image) : Type 0 where
   as_before : ((page : ℕ) → other page ≡ image page) → Becomes s masks image other
   kept : s.clean ≢ 1 → other 0 ≡ image 0 → Becomes s masks image other
-  in_use : IsPageOf (with_clean 0 s) (other 0) → Becomes s masks image other
+  in_use : IsSuperPage (with_clean 0 s) (other 0) → Becomes s masks image other
   clean : IsCleanWith s masks other → Becomes s masks image other
 
 -- What power that fails may leave while a store is closed: what becomes so of an image from before, all but the super

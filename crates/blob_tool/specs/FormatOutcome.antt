@@ -11,7 +11,7 @@ use Rattle.unclean_load.specs.declared.fault.LoadFault.{LoadFault}
 use Rattle.unclean_load.specs.declared.fault.LoadFault.TheVariants as loading
 use Rattle.blob_report.specs.Text.{space_text}
 use Rattle.store_format.specs.NewStore.{md_end_of, IsNewStore, LoadsAsPlanned, Writes}
-use Rattle.store_format.specs.SuperBlob.{page_of}
+use Rattle.store_format.specs.SuperBlob.{super_blob_page_of}
 use Rattle.store_format.specs.declared.super_blob.StoreName.{StoreName}
 use Rattle.streams.specs.Printing.{IsPartOf}
 use Rattle.streams.specs.declared.sink.Sink as sink
@@ -58,10 +58,10 @@ module _ {D : Type 0} (d : disk.Ghosts D) (before back : D) (format : Format) wh
   pub record Formatted : Type 0 where
     pub has_place : planning_fault (d.pages before) format ≡ None
     pub one_image : IsTrue d.tells → Only (d.now back) (d.images back)
-    pub store : IsTrue d.tells → IsNewStore plan (page_of format.lvol) (d.now back)
+    pub store : IsTrue d.tells → IsNewStore plan (super_blob_page_of format.lvol) (d.now back)
     pub loads : IsTrue d.tells → LoadsAsPlanned plan format.lvol (d.now back)
     pub behind : IsTrue d.tells → SameBut (IsBetween 0 (md_end_of plan)) (d.now before) (d.now back)
-    pub writes : Writes d plan (page_of format.lvol) before back
+    pub writes : Writes d plan (super_blob_page_of format.lvol) before back
 
   module _ {K : Type 0} (k : sink.Ghosts K) (out out_now : K) where
     -- the store is there, and its line is printed
@@ -88,7 +88,7 @@ module _ {D : Type 0} (d : disk.Ghosts D) (before back : D) (format : Format) wh
       pub has_place : planning_fault (d.pages before) format ≡ None
       pub cause : Rose (d.write_faults before) (d.write_faults back)
       pub quiet : out_now ≡ out
-      pub writes : Writes d plan (page_of format.lvol) before back
+      pub writes : Writes d plan (super_blob_page_of format.lvol) before back
 
     -- what each status says
     abbrev pub FormatEnded : Status → Type 0

@@ -9,17 +9,17 @@ use Rattle.blob_tool.specs.declared.status.Status.{Status}
 use Rattle.blob_tool.specs.declared.status.Status.TheVariants as status
 
 -- the text of the script that is asked for
-abbrev pub text_of : GeneratedScript → List ℕ
-text_of script = generated script.number script.size
+abbrev pub script_text : GeneratedScript → List ℕ
+script_text script = generated script.number script.size
 
 module _ (script : GeneratedScript) {K : Type 0} (k : sink.Ghosts K) (out out_now : K) where
   -- the whole text was printed
   abbrev pub IsPrintedScript : Type 0
-  IsPrintedScript = IsTrue k.tells → k.written out_now ≡ k.written out ++ text_of script
+  IsPrintedScript = IsTrue k.tells → k.written out_now ≡ k.written out ++ script_text script
 
   -- a part of it was printed, from its beginning
   abbrev pub IsPartOfScript : Type 0
-  IsPartOfScript = IsTrue k.tells → IsPartOf (k.written out) (k.written out_now) (text_of script)
+  IsPartOfScript = IsTrue k.tells → IsPartOf (k.written out) (k.written out_now) (script_text script)
 
   -- all was printed, or the sink failed, or memory ran out
   abbrev pub GenerateEnded : Status → Type 0

@@ -29,7 +29,7 @@ use Rattle.store_model.specs.StoreState.{shown, StoreState}
 use Rattle.store_model.specs.Turning.{IsNotFrozen}
 use Rattle.running_store.specs.TurnMade.{TurnMade, TurnsAs}
 use Rattle.channel_turns.specs.ChannelTurns.{WaitsToWrite}
-use Rattle.channel_turns.specs.ClaimTurns.{ClaimsNow, IsOfClaim, writing}
+use Rattle.channel_turns.specs.ClaimTurns.{ClaimsNow, IsOfClaim, writing_state}
 use Rattle.running_store.specs.RunningState.{IsRunning}
 use Rattle.running_store.specs.StoreView.{AreResolved, rows_of, state_of, StoreView}
 use Rattle.running_store.specs.Steps.{OnlyRow, with_row_at}
@@ -63,7 +63,7 @@ module _ {D : Type 0} (d : Ghosts D) (p : StoreView D) (channel : ℕ) (running 
       let x : HasPlace (map.get p.metas) k head w.page place =
       has_place (map.get p.metas) k w.page place head found in (
         record {
-          write = writing d p channel Claiming w;
+          write = writing_state d p channel Claiming w;
           runs = runs;
           cluster = x.cluster;
           means = means_at d p channel Claiming running runs are w head meant thawed x.at x.head_is x.meta x.there
@@ -87,7 +87,7 @@ module _ {D : Type 0} (d : Ghosts D) (p : StoreView D) (channel : ℕ) (running 
           is = tt;
           made = (
             record {
-              write = writing d p channel Claiming w;
+              write = writing_state d p channel Claiming w;
               runs = runs;
               free = free d p channel Claiming running runs are w head meant thawed;
               unfilled = unfilled d p channel Claiming running runs are w head meant thawed none;
@@ -194,7 +194,7 @@ module _ {D : Type 0} (d : Ghosts D) (p : StoreView D) (channel head slot : ℕ)
       subst (λ n. now.frozen n ≡ false) e x.means.free
 
   -- the slot is empty
-  not_filled : (cluster : ℕ) → MeansSlot now (writing d p channel Claiming w) (Some cluster) → ⊥
+  not_filled : (cluster : ℕ) → MeansSlot now (writing_state d p channel Claiming w) (Some cluster) → ⊥
   not_filled cluster m =
       let both : Some x.means.head ≡ Some m.head = sym x.means.found ∙ m.found in
       let e : x.means.head ≡ m.head = cc both in
@@ -215,7 +215,7 @@ module _ {D : Type 0} (d : Ghosts D) (p : StoreView D) (channel head slot : ℕ)
         is = tt;
         made = (
           record {
-            write = writing d p channel Claiming w;
+            write = writing_state d p channel Claiming w;
             runs = x.runs;
             free = not_frozen;
             unfilled = not_filled;
@@ -255,7 +255,7 @@ module _ {D : Type 0} (d : Ghosts D) (p : StoreView D) (channel head slot : ℕ)
         claim = Some (record { cluster = cluster; head = head_is i; slot = slot_is i; generation = generation });
       }) in (
         record {
-          write = writing d p channel Claiming w;
+          write = writing_state d p channel Claiming w;
           runs = x.runs;
           asked = x.asked;
           means = x.means;

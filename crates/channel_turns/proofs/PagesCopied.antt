@@ -21,7 +21,7 @@ use Rattle.store_model.specs.Filling.{FillStands}
 use Rattle.store_model.specs.Rows.{Copying, Idle, Row}
 use Rattle.store_model.specs.StoreState.{StoreState}
 use Rattle.store_model.specs.Touches.{no_new, puts, Touched}
-use Rattle.store_model.specs.Turning.{read_after}
+use Rattle.store_model.specs.Turning.{read_after_write}
 use Rattle.channel_turns.proofs.Thawed.{IsThawed}
 use Rattle.running_store.specs.Steps.{stopped_here, with_row_at}
 use Rattle.running_store.specs.TurnMade.{TurnMade, TurnsAs}
@@ -125,8 +125,8 @@ module _ {D : Type 0} (d : Ghosts D) (p : StoreView D) (row : ℕ) (from : Optio
             ∙ ap (λ (b : Bool). if b then content else zero_page) told);
         device = device_of d disk;
         reads = moves.reads
-            ∙ ap (λ (image : Image). read_after d.tells image to content) read.reads
-            ∙ ap (λ n. read_after d.tells now.device.reads n content) (sym x.to_is);
+            ∙ ap (λ (image : Image). read_after_write d.tells image to content) read.reads
+            ∙ ap (λ n. read_after_write d.tells now.device.reads n content) (sym x.to_is);
         clock = let rises = moves.clock in let still = read.clock in omega (arith, rises, still);
         read_calls = calls (d.reads disk) moves.read_calls;
         read_faults = moves.read_faults ∙ no_read_fault;

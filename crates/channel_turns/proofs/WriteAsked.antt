@@ -22,7 +22,7 @@ use Rattle.store_model.specs.Shown.{fixed_of}
 use Rattle.store_model.specs.StoreState.{shown, StoreState}
 use Rattle.channel_turns.specs.ChannelTurns.{IsOfWrite, WaitsToWrite, WritesNow}
 use Rattle.running_store.specs.TurnMade.{TurnMade, TurnsAs}
-use Rattle.channel_turns.specs.ClaimTurns.{writing}
+use Rattle.channel_turns.specs.ClaimTurns.{writing_state}
 use Rattle.running_store.specs.RunningState.{IsRunning}
 use Rattle.running_store.specs.StoreView.{AreResolved, rows_of, state_of, StoreView}
 use Rattle.running_store.specs.Steps.{with_row_at}
@@ -125,7 +125,7 @@ module _ {D : Type 0} (d : Ghosts D) (p : StoreView D) (channel : ℕ) (running 
         → TurnMade d p (with_row_at p channel row) kind.finds_empty
     found_empty none there low row is = (
       record {
-        write = writing d p channel Idle w;
+        write = writing_state d p channel Idle w;
         runs = runs;
         asked = asked;
         means = means_none d p channel Idle running runs are w head meant thawed asked none there;

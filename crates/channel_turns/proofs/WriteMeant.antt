@@ -36,7 +36,7 @@ use Rattle.store_model.specs.StoreState.{shown, StoreState}
 use Rattle.store_model.specs.Turning.{IsNotFrozen}
 use Rattle.store_model.proofs.Inside.{none_of_map}
 use Rattle.channel_turns.specs.ChannelTurns.{IsFrozenFor, WaitsToWrite}
-use Rattle.channel_turns.specs.ClaimTurns.{writing}
+use Rattle.channel_turns.specs.ClaimTurns.{writing_state}
 use Rattle.running_store.specs.RunningState.{IsRunning}
 use Rattle.running_store.specs.Steps.{Asks}
 use Rattle.running_store.specs.StoreView.{AreResolved, rows_of, state_of, StoreView}
@@ -175,7 +175,7 @@ module _ {D : Type 0} (d : Ghosts D) (p : StoreView D) (channel : ℕ) (stage : 
     free h is = subst (λ o. option_map_or (set.contains p.guards.frozen) o false ≡ false) (sym head_is ∙ is) thawed
 
     abbrev pub means_at : (h : ℕ) → head ≡ Some h → (m : Meta) → map.get p.metas h ≡ Some m → (cluster : Option ℕ)
-        → slot m (w.page / k) ≡ cluster → MeansSlot s (writing d p channel stage w) cluster
+        → slot m (w.page / k) ≡ cluster → MeansSlot s (writing_state d p channel stage w) cluster
     means_at h is m there cluster at = record {
       head = h;
       found = head_is ∙ is;
@@ -188,11 +188,11 @@ module _ {D : Type 0} (d : Ghosts D) (p : StoreView D) (channel : ℕ) (stage : 
     -- the slot is empty
     pub means_none : refusal (fixed_of p.super) (shown s) command ≡ None
         → place_by (map.get p.metas) k w.page head ≡ None → IfSome head (λ h. IsSome (map.get p.metas h))
-        → MeansSlot s (writing d p channel stage w) None
+        → MeansSlot s (writing_state d p channel stage w) None
     means_none asked none there = by head refl there
       where
         by : (o : Option ℕ) → head ≡ o → IfSome o (λ h. IsSome (map.get p.metas h))
-            → MeansSlot s (writing d p channel stage w) None
+            → MeansSlot s (writing_state d p channel stage w) None
         by None is some = absurd (some_meant asked is)
         by (Some h) is some =
             let x = has_empty (map.get p.metas) k h w.page some
@@ -201,7 +201,7 @@ module _ {D : Type 0} (d : Ghosts D) (p : StoreView D) (channel : ℕ) (stage : 
 
     -- the slot has no cluster
     pub unfilled : place_by (map.get p.metas) k w.page head ≡ None → (cluster : ℕ)
-        → MeansSlot s (writing d p channel stage w) (Some cluster) → ⊥
+        → MeansSlot s (writing_state d p channel stage w) (Some cluster) → ⊥
     unfilled none cluster m =
         let is : head ≡ Some m.head = sym head_is ∙ m.found in
         let there : map.get p.metas m.head ≡ Some m.meta =

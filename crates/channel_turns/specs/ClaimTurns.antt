@@ -53,9 +53,9 @@ row_claimed claim.Logged pages held row = gone_on row
 row_claimed claim.Claimed pages held row = record row { stage = Copying pages; claim = held }
 
 -- a channel's write that has found its slot empty, as one of the state
-abbrev pub writing : {D : Type 0} (d : Ghosts D) (p : StoreView D) (channel : ℕ) (stage : Stage)
+abbrev pub writing_state : {D : Type 0} (d : Ghosts D) (p : StoreView D) (channel : ℕ) (stage : Stage)
     → WaitsToWrite p channel stage → IsWriting (state_of d p) stage None
-writing d p channel stage w = record {
+writing_state d p channel stage w = record {
   channel = channel;
   volume = w.volume;
   page = w.page;
@@ -68,8 +68,8 @@ writing d p channel stage w = record {
 pub record ClaimsNow {D : Type 0} (d : Ghosts D) (p : StoreView D) (channel head slot : ℕ) : Type 0 where
   pub waits : WaitsToWrite p channel Claiming
   pub runs : p.stopped ≡ None
-  pub asked : refused_by (state_of d p) (writing d p channel Claiming waits) ≡ None
-  pub means : MeansSlot (state_of d p) (writing d p channel Claiming waits) None
+  pub asked : refused_by (state_of d p) (writing_state d p channel Claiming waits) ≡ None
+  pub means : MeansSlot (state_of d p) (writing_state d p channel Claiming waits) None
   pub head_is : means.head ≡ head
   pub slot_is : waits.page / cluster_pages_of p.super ≡ slot
   pub generation : ℕ

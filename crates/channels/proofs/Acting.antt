@@ -11,7 +11,7 @@ use Rattle.super_block.specs.declared.page.Super.{Super}
 use Rattle.volume_model.specs.Volumes.{Volumes}
 use Rattle.volume_model.specs.declared.command.Command.{Command}
 use Rattle.volume_model.specs.declared.reply.Msg.{Msg}
-use Rattle.md_queue.specs.Queue.{Appends, IsFull}
+use Rattle.md_queue.specs.Queue.{Appends, HasNoRoom}
 use Rattle.store_model.specs.Rows.{Claiming, Copying, Decided, Ended, Idle, InJob, Posted, Ready, Stage}
 use Rattle.store_model.specs.RunInvariant.{RunInvariant}
 use Rattle.store_model.specs.StoreState.{JobState, StoreState}
@@ -153,7 +153,7 @@ module _ (told : Bool) (s : Super) (first : Volumes) (script : ℕ → List Comm
     )
 
     -- or keeps it
-    pub keeping_acts : e.unsent ≡ c.unsent → IsFull queue → Acts p queue
+    pub keeping_acts : e.unsent ≡ c.unsent → HasNoRoom queue → Acts p queue
     keeping_acts same many = inr
         (full p (messages_by s_ (unsent_of channels) queue) k serial is_posted many, stays same)
 

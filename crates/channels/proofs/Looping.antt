@@ -10,7 +10,7 @@ use Rattle.run_work.specs.Work.{work}
 use Rattle.run_moves.specs.DrivenStore.{DrivenStore, run_of}
 use Rattle.run_moves.specs.DriverSteps.{DriverStep, has_all_ended, StoreFollows}
 use Rattle.run_moves.specs.Sizes.{sizes_of}
-use Rattle.channels.specs.Driving.{driven, IsDriven, IsSameStore, Steps}
+use Rattle.channels.specs.Driving.{driven, IsDriven, IsOfSameStore, Steps}
 use Rattle.channels.specs.declared.driver.Driver.{Driver}
 use Rattle.channels.proofs.Runs.{follows_as, joined, round_as}
 use Rattle.channels.proofs.Stepping.{same_then}
@@ -20,13 +20,13 @@ module _ {D : Type 0} (d : Ghosts D) (first : Driver D) where
   abbrev pub Step : ActorInRun → DrivenStore → DrivenStore → Type 0
   Step = Steps d.tells first.plant.opening.super
 
-  same_super : (w : Driver D) → IsSameStore first w → w.plant.opening.super ≡ first.plant.opening.super
+  same_super : (w : Driver D) → IsOfSameStore first w → w.plant.opening.super ≡ first.plant.opening.super
   same_super w store = ap (λ (o : StoreView D). o.super) store.opening
 
   -- what has been done of a schedule
   pub record Followed (actors : List ActorInRun) (w : Driver D) : Type 0 where
     pub is_driven : IsDriven d w
-    pub store : IsSameStore first w
+    pub store : IsOfSameStore first w
     pub run : Scheduled Step has_all_ended actors (driven d first) (driven d w)
 
   pub none_followed : IsDriven d first → Followed [] first
@@ -39,7 +39,7 @@ module _ {D : Type 0} (d : Ghosts D) (first : Driver D) where
   -- more of it
   pub followed_more : (actors more all : List ActorInRun) (w v : Driver D) → Followed actors w → actors ++ more ≡ all
       → Scheduled (Steps d.tells w.plant.opening.super) has_all_ended more (driven d w) (driven d v) → IsDriven d v
-      → IsSameStore w v → Followed all v
+      → IsOfSameStore w v → Followed all v
   followed_more actors more all w v so is run still store = record {
     is_driven = still;
     store = same_then first w v so.store store;
@@ -52,14 +52,14 @@ module _ {D : Type 0} (d : Ghosts D) (first : Driver D) where
   -- one step more
   pub followed_step : (actors all : List ActorInRun) (actor : ActorInRun) (w v : Driver D) → Followed actors w
       → actors ++ actor ∷ [] ≡ all → Steps d.tells w.plant.opening.super actor (driven d w) (driven d v) → IsDriven d v
-      → IsSameStore w v → Followed all v
+      → IsOfSameStore w v → Followed all v
   followed_step actors all actor w v so is step still store =
       followed_more actors (actor ∷ []) all w v so is (driven d v, (step, refl)) still store
 
   -- the channels that were passed in a round
   pub record Passed (count : ℕ) (w : Driver D) : Type 0 where
     pub is_driven : IsDriven d w
-    pub store : IsSameStore first w
+    pub store : IsOfSameStore first w
     pub passes : Passes Step has_all_ended count (driven d first) (driven d w)
 
   pub none_passed : IsDriven d first → Passed 0 first
@@ -69,14 +69,14 @@ module _ {D : Type 0} (d : Ghosts D) (first : Driver D) where
     passes = refl;
   }
 
-  here : (actor : ActorInRun) (w v : Driver D) → IsSameStore first w
+  here : (actor : ActorInRun) (w v : Driver D) → IsOfSameStore first w
       → Steps d.tells w.plant.opening.super actor (driven d w) (driven d v) → Step actor (driven d w) (driven d v)
   here actor w v store step =
       subst (λ (s : Super). Steps d.tells s actor (driven d w) (driven d v)) (same_super w store) step
 
   pub passed_more : (count : ℕ) (w v : Driver D) → Passed count w
       → Steps d.tells w.plant.opening.super (ChannelActs count) (driven d w) (driven d v) → IsDriven d v
-      → IsSameStore w v → Passed (count + 1) v
+      → IsOfSameStore w v → Passed (count + 1) v
   passed_more count w v so step still store =
       let one : count + 1 ≡ suc count = omega arith in
       record {
@@ -100,13 +100,13 @@ module _ {D : Type 0} (d : Ghosts D) (first : Driver D) where
   -- the schedule, and rounds so far
   pub record Rounded (schedule : List ActorInRun) (w : Driver D) : Type 0 where
     pub is_driven : IsDriven d w
-    pub store : IsSameStore first w
+    pub store : IsOfSameStore first w
     pub mid : DrivenStore
     pub run : Scheduled Step has_all_ended schedule (driven d first) mid
     pub count : ℕ
     pub rounds : Rounds Step has_all_ended count mid (driven d w)
 
-  pub none_rounded : (schedule : List ActorInRun) (w : Driver D) → IsDriven d w → IsSameStore first w
+  pub none_rounded : (schedule : List ActorInRun) (w : Driver D) → IsDriven d w → IsOfSameStore first w
       → Scheduled Step has_all_ended schedule (driven d first) (driven d w) → Rounded schedule w
   none_rounded schedule w is store run =
       record { is_driven = is; store = store; mid = driven d w; run = run; count = 0; rounds = refl }
@@ -114,7 +114,7 @@ module _ {D : Type 0} (d : Ghosts D) (first : Driver D) where
   pub rounded_more : (schedule : List ActorInRun) (w v : Driver D) → Rounded schedule w
       → has_all_ended (driven d w) ≡ false
       → Round (Steps d.tells w.plant.opening.super) has_all_ended (driven d w) (driven d v) → IsDriven d v
-      → IsSameStore w v → Rounded schedule v
+      → IsOfSameStore w v → Rounded schedule v
   rounded_more schedule w v so live round still store = record {
     is_driven = still;
     store = same_then first w v so.store store;
@@ -143,7 +143,7 @@ module _ {D : Type 0} (d : Ghosts D) (first : Driver D) where
       (record { mid = so.mid; scheduled = so.run; count = so.count; rounds = so.rounds; ended_then = over })
 
   -- a round lowers the work
-  pub round_lowers : EndLaws → (w v : Driver D) → IsSameStore first w → IsDriven d w
+  pub round_lowers : EndLaws → (w v : Driver D) → IsOfSameStore first w → IsDriven d w
       → has_all_ended (driven d w) ≡ false
       → Round (Steps d.tells w.plant.opening.super) has_all_ended (driven d w) (driven d v)
       → work (sizes_of first.plant.opening.super) (run_of (driven d v))

@@ -15,7 +15,8 @@ use Rattle.run_moves.specs.DrivenStore.{DrivenStore, run_of}
 use Rattle.run_moves.specs.DriverSteps.{by_closing, by_failed_fill, by_fill, by_job, by_message, by_taking}
 use Rattle.run_moves.specs.DriverSteps.{by_taking_up, driven_at_turn, DriverStep, MetadataActsOn}
 use Rattle.run_moves.proofs.DriverMoves.{turn_is}
-use Rattle.md_thread.specs.Holding.{driven_by, IsKept, Keeps, LooksForMessage, MakesStep, messages_by, MetadataState}
+use Rattle.md_thread.specs.Holding.{driven_by, IsKept, KeepsMessage, LooksForMessage, MakesStep, messages_by}
+use Rattle.md_thread.specs.Holding.{MetadataState}
 use Rattle.page_disk.specs.declared.disk.PageDisk.{Ghosts}
 use Rattle.store_model.specs.Filling.{IsFilledFor}
 use Rattle.running_store.specs.StoreView.{rows_of, state_of, StoreView}
@@ -205,7 +206,7 @@ module _ (laws : DueLaws) (told : Bool) (p : StoreState) (s t : MetadataState) (
 -- ---- what is known of its messages
 
 -- a message that it keeps is on its way
-kept_way : (p : StoreState) (s : MetadataState) (unsent : ℕ → Option ℕ) (queue : List Msg) (m : Msg) → Keeps s m
+kept_way : (p : StoreState) (s : MetadataState) (unsent : ℕ → Option ℕ) (queue : List Msg) (m : Msg) → KeepsMessage s m
     → IsOnTheWay (run_of (driven_by p s unsent queue)) m
 kept_way p s unsent queue m (not_sent is) = absurd (cc is)
 kept_way p s unsent queue m (in_queue is) = absurd is

@@ -30,7 +30,7 @@ use Rattle.run_work.specs.ChannelMoves.{logs_itself}
 use Rattle.run_moves.specs.Projection.{stage_in_run}
 use Rattle.run_moves.specs.DriverSteps.{ChannelTurn, PostingTurn}
 use Rattle.run_moves.specs.DriverSteps as turns
-use Rattle.channels.specs.ChannelSteps.{Posts}
+use Rattle.channels.specs.ChannelSteps.{PostsRow}
 
 longer : (command : Command) (rest : List Command) → (command ∷ rest) ≡ rest → ⊥
 longer command rest e =
@@ -249,7 +249,7 @@ module _ {D : Type 0} (d : Ghosts D) (p q : StoreView D) (channel : ℕ)
       turns.ends t (goes _ t.next t.channel _ refl Idle (ap (λ (r : Row). r.stage) t.over) (λ e. cc e))
 
   abbrev PostsOwn : Msg → Type 0
-  PostsOwn msg = Posts d p q channel msg
+  PostsOwn msg = PostsRow d p q channel msg
 
   pub posts : (msg : Msg) → TurnMade d p q kind.posts → msg ≡ record { channel = channel; serial = p.serial }
       → PostsOwn msg

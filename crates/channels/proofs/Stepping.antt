@@ -28,7 +28,8 @@ use Rattle.run_moves.specs.Sizes.{sizes_of}
 use Rattle.md_thread.proofs.TurnsRepaired.{turned}
 use Rattle.channels.specs.ChannelState.{ChannelState}
 use Rattle.channels.specs.ChannelSteps.{IsHeldUp, made_turn, MadeStep, TurnsOrPosts, was_held, was_kept, was_sent}
-use Rattle.channels.specs.Driving.{AreChannelsOf, driven, IsChannelOf, IsDriven, IsSameStore, KeepsFill, StillKeepsFill}
+use Rattle.channels.specs.Driving.{AreChannelsOf, driven, IsChannelOf, IsDriven, IsOfSameStore, KeepsFill}
+use Rattle.channels.specs.Driving.{StillKeepsFill}
 use Rattle.channels.specs.Driving.{Steps}
 use Rattle.channels.specs.declared.driver.Driver.{Driver}
 use Rattle.channels.proofs.Acting.{held_acts, keeping_acts, posted_stage, sending_acts, turn_acts}
@@ -39,7 +40,7 @@ use Rattle.md_thread.proofs.OneRow.{RowStep}
 
 -- ---- the same store
 
-pub same_then : {D : Type 0} (a b c : Driver D) → IsSameStore a b → IsSameStore b c → IsSameStore a c
+pub same_then : {D : Type 0} (a b c : Driver D) → IsOfSameStore a b → IsOfSameStore b c → IsOfSameStore a c
 same_then a b c first next = record {
   opening = next.opening ∙ first.opening;
   right = next.right ∙ first.right;
@@ -49,7 +50,7 @@ same_then a b c first next = record {
 -- ---- any step
 
 module _ {D : Type 0} (d : Ghosts D) (laws : DriverLaws) (plain : PlainRowLaws) (fact : FactLaws) (w v : Driver D)
-    (is : IsDriven d w) (kept : StoreInvariant d w.plant) (later : StoreInvariant d v.plant) (store : IsSameStore w v)
+    (is : IsDriven d w) (kept : StoreInvariant d w.plant) (later : StoreInvariant d v.plant) (store : IsOfSameStore w v)
     (actor : ActorInRun) (step : DriverStep d.tells actor (driven d w) (driven d v)) (state : StateLaws) where
   later_facts : RunInvariant w.plant.opening.super (shown (state_of d w.plant.opening))
       (opening_script w.plant.opening) (state_of d v.plant.at)

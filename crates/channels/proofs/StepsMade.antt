@@ -3,7 +3,7 @@ use Rattle.std.proofs.Common.{◌≡◌, ℕ, Option, Some, None, true, List, []
 use Rattle.std.specs.Option.{option_map}
 use Rattle.page_disk.specs.declared.disk.PageDisk.{Ghosts}
 use Rattle.volume_model.specs.declared.reply.Msg.{Msg}
-use Rattle.md_queue.specs.Queue.{Appends, IsFull}
+use Rattle.md_queue.specs.Queue.{Appends, HasNoRoom}
 use Rattle.md_thread.specs.declared.state.Next.TheVariants as next
 use Rattle.md_thread.specs.declared.state.Turn.{Turn}
 use Rattle.md_thread.specs.declared.state.Turn.TheVariants.{Idle, Moved}
@@ -12,7 +12,7 @@ use Rattle.running_store.specs.Stages.{is_stage}
 use Rattle.running_store.specs.StoreView.{rows_of, state_of, WithOpening}
 use Rattle.running_store.specs.declared.rows.RowStage.{RowStage}
 use Rattle.running_store.specs.declared.rows.RowStage.TheVariants as waits
-use Rattle.channels.specs.ChannelState.{ChannelState, has_ended_at, message_of, next_of}
+use Rattle.channels.specs.ChannelState.{ChannelState, has_ended_at, message_of, next_step_of}
 use Rattle.channels.specs.ChannelSteps.{by_end, IsHeldUp, made_turn, MadeStep, TurnsOrPosts, was_held, was_kept}
 use Rattle.channels.specs.ChannelSteps.{was_sent}
 use Rattle.channels.specs.Driving.{IsChannelOf}
@@ -32,7 +32,7 @@ module _ {D : Type 0} (d : Ghosts D) (p q : WithOpening D) (c e : ChannelState) 
   Made = MadeStep d p q c e queue later
 
   -- on the store
-  pub by_turn : next_of c ≡ next.Plant → later ≡ queue → (turn : Turn)
+  pub by_turn : next_step_of c ≡ next.Plant → later ≡ queue → (turn : Turn)
       → (turn ≡ Moved → TurnsOrPosts d.tells (state_of d p.at) (state_of d q.at) c.channel e.unsent)
       → (turn ≡ Idle → IsHeldUp (state_of d p.at) c.channel) → (turn ≡ Idle → (q ≡ p) × (e.unsent ≡ None)) → Made
   by_turn is same Moved moved idle kept = made_turn (nothing_unsent c is) (moved refl) same
@@ -40,9 +40,9 @@ module _ {D : Type 0} (d : Ghosts D) (p q : WithOpening D) (c e : ChannelState) 
       was_held (nothing_unsent c is) (kept refl).1 (idle refl) (kept refl).0 same
 
   -- on the queue
-  pub by_send : next_of c ≡ next.Queue → q ≡ p → (turn : Turn)
+  pub by_send : next_step_of c ≡ next.Queue → q ≡ p → (turn : Turn)
       → ((msg : Msg) → turn ≡ Moved → message_of c ≡ Some msg → Appends queue msg later × (later ≡ queue ++ msg ∷ []))
-      → (turn ≡ Moved → e ≡ record c { unsent = None }) → (turn ≡ Idle → IsFull queue)
+      → (turn ≡ Moved → e ≡ record c { unsent = None }) → (turn ≡ Idle → HasNoRoom queue)
       → (turn ≡ Idle → (later ≡ queue) × (e ≡ c)) → Made
   by_send is kept Moved sent emptied full same =
       let x = something_unsent c is in
@@ -55,7 +55,7 @@ module _ {D : Type 0} (d : Ghosts D) (p q : WithOpening D) (c e : ChannelState) 
       was_kept x.0 x.1 (ap (λ (s : ChannelState). s.unsent) (same refl).1) (full refl) kept (same refl).0
 
   -- not at all
-  pub by_ending : next_of c ≡ next.Ended → IsChannelOf p.at.rows c.channel c → e ≡ c → q ≡ p → later ≡ queue → Made
+  pub by_ending : next_step_of c ≡ next.Ended → IsChannelOf p.at.rows c.channel c → e ≡ c → q ≡ p → later ≡ queue → Made
   by_ending is own same kept still =
       let x = over_unsent c is in
       was_held x.0 (ap (λ (s : ChannelState). s.unsent) same ∙ x.0) (by_end (own.ended x.1)) kept still

@@ -52,5 +52,5 @@ next_at None true = next.Ended
 next_at None false = next.Plant
 
 -- what its next step is made on: a message that it has to send comes first
-abbrev pub next_of : ChannelState → Next
-next_of c = next_at c.unsent c.ended
+abbrev pub next_step_of : ChannelState → Next
+next_step_of c = next_at c.unsent c.ended

@@ -8,12 +8,12 @@ use Rattle.store_model.specs.Rows.{Claiming, Ended, Idle, InJob, Posted}
 use Rattle.store_model.specs.StoreState.{StoreState}
 use Rattle.channel_turns.specs.ChannelTurns.{IsFrozenFor}
 use Rattle.running_store.specs.StoreView.{state_of, StoreView, WithOpening}
-use Rattle.md_queue.specs.Queue.{Appends, IsFull}
+use Rattle.md_queue.specs.Queue.{Appends, HasNoRoom}
 use Rattle.channels.specs.ChannelState.{ChannelState}
 use Rattle.run_moves.specs.DriverSteps.{ChannelTurn, PostingTurn}
 
 -- A turn that posts the row of a channel, by this message.
-pub record Posts {D : Type 0} (d : Ghosts D) (p q : StoreView D) (channel : ℕ) (msg : Msg) : Type 0 where
+pub record PostsRow {D : Type 0} (d : Ghosts D) (p q : StoreView D) (channel : ℕ) (msg : Msg) : Type 0 where
   pub turn : PostingTurn d.tells (state_of d p) (state_of d q) channel
   pub message : msg ≡ record { channel = channel; serial = p.serial }
 
@@ -60,5 +60,5 @@ pub data MadeStep {D : Type 0} (d : Ghosts D) (p q : WithOpening D) (c e : Chann
       → MadeStep d p q c e queue later
   was_sent : (serial : ℕ) → c.unsent ≡ Some serial → e.unsent ≡ None
       → Appends queue (record { channel = c.channel; serial = serial }) later → q ≡ p → MadeStep d p q c e queue later
-  was_kept : (serial : ℕ) → c.unsent ≡ Some serial → e.unsent ≡ c.unsent → IsFull queue → q ≡ p → later ≡ queue
+  was_kept : (serial : ℕ) → c.unsent ≡ Some serial → e.unsent ≡ c.unsent → HasNoRoom queue → q ≡ p → later ≡ queue
       → MadeStep d p q c e queue later

@@ -72,7 +72,7 @@ pub record IsDriven {D : Type 0} (d : Ghosts D) (w : Driver D) : Type 0 where
   pub works : HoldsFill (state_of d w.plant.at) (driven d w).messages
 
 -- it is the same store, with the same right to change it
-pub record IsSameStore {D : Type 0} (w v : Driver D) : Type 0 where
+pub record IsOfSameStore {D : Type 0} (w v : Driver D) : Type 0 where
   pub opening : v.plant.opening ≡ w.plant.opening
   pub right : v.right ≡ w.right
   pub name : v.plant.right ≡ w.plant.right

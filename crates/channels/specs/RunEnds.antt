@@ -9,6 +9,6 @@ abbrev pub ended_row : Row
 ended_row = record { left = []; stage = Ended; claim = None }
 
 -- by where the store stopped, if it did
-abbrev pub end_of : Option ℕ → RunEnd
-end_of None = run_end.Ended
-end_of (Some at) = run_end.Stopped at
+abbrev pub run_end_of : Option ℕ → RunEnd
+run_end_of None = run_end.Ended
+run_end_of (Some at) = run_end.Stopped at

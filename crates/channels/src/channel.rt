@@ -32,7 +32,7 @@ impl Channel {
     ghost use Rattle.std.specs.Prelude.{◌≡◌, ◌<◌, ◌↔◌, ℕ, ◌++◌, ◌∷◌, [], Some, None};
     ghost use Rattle.md_thread.specs.declared.state.Next.TheVariants as next;
     ghost use Rattle.md_thread.specs.declared.state.Turn.TheVariants.{Idle, Moved};
-    ghost use Rattle.channels.specs.ChannelState.{channel_at, has_ended_at, message_of, next_of, sent_at};
+    ghost use Rattle.channels.specs.ChannelState.{channel_at, has_ended_at, message_of, next_step_of, sent_at};
     ghost use Rattle.channels.specs.ChannelSteps.{IsHeldUp, TurnsOrPosts};
     ghost use Rattle.running_store.specs.Stages.{is_stage};
     ghost use Rattle.running_store.specs.StoreView.{rows_of, state_of};
@@ -67,7 +67,7 @@ impl Channel {
     /// What its next step is made on: the queue, where it has a message to send, and else the store, until it has
     /// ended.
     pub fn next(&self) -> Next
-        ensures { result ≡ next_of self.now }
+        ensures { result ≡ next_step_of self.now }
     {
         match self.unsent {
             Some(_) => Next::Queue,
@@ -79,7 +79,7 @@ impl Channel {
     /// Makes the turn that its row's stage names, and no other. `Idle` comes exactly where its blob is frozen, its
     /// request is at the metadata thread, or it has ended: the store is as it was.
     pub fn turn<D: PageDisk>(&mut self, plant: &mut Plant<D>) -> Turn
-        requires next { next_of self.old ≡ next.Plant }
+        requires next { next_step_of self.old ≡ next.Plant }
         requires low { self.old.channel < 16 }
         ensures moved { result ≡ Moved → TurnsOrPosts D.tells (state_of D.PageDisk plant.old.at)
             (state_of D.PageDisk plant.new.at) self.old.channel self.new.unsent }
@@ -106,7 +106,7 @@ impl Channel {
     /// Sends its message. `Idle` comes only where the queue was full at some moment of the call: the message is kept,
     /// to be sent by a later step.
     pub fn send<O: Outbox>(&mut self, out: &mut O) -> Turn
-        requires next { next_of self.old ≡ next.Queue }
+        requires next { next_step_of self.old ≡ next.Queue }
         requires serves { O.serves out.old self.old.channel }
         ensures sent { (msg : AMsg) → result ≡ Moved → message_of self.old ≡ Some msg
             → O.accepts out.old msg out.new × (O.messages out.new ≡ O.messages out.old ++ msg ∷ []) }

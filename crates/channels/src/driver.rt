@@ -9,7 +9,7 @@ ghost use Rattle.run_moves.specs.DrivenStore.{driven_at_start};
 ghost use Rattle.run_moves.specs.DriverSteps.{has_all_ended, DriverStep, StoreFollows};
 ghost use Rattle.channels.specs.Actors.{actor_in_run, actors_in_run};
 ghost use Rattle.channels.specs.ChannelState.{starting_at};
-ghost use Rattle.channels.specs.Driving.{driven, AreChannelsOf, AreStarting, IsDriven, IsSameStore, KeepsFill};
+ghost use Rattle.channels.specs.Driving.{driven, AreChannelsOf, AreStarting, IsDriven, IsOfSameStore, KeepsFill};
 ghost use Rattle.channels.specs.Driving.{StillKeepsFill, Steps};
 ghost use Rattle.script_lang.specs.Schedules.{repeated};
 
@@ -89,7 +89,7 @@ impl<D: PageDisk> Driver<D> {
             (driven D.PageDisk self.new) }
         ensures channels { AreChannelsOf self.new.plant.at.rows self.new.channels }
         ensures metadata { self.new.metadata ≡ self.old.metadata }
-        ensures store { IsSameStore self.old self.new }
+        ensures store { IsOfSameStore self.old self.new }
     {
         steps_are_moves();
         state_turns();
@@ -107,7 +107,7 @@ impl<D: PageDisk> Driver<D> {
         ensures step { DriverStep D.tells MetadataActs (driven D.PageDisk self.old) (driven D.PageDisk self.new) }
         ensures channels { self.new.channels ≡ self.old.channels }
         ensures keeps { KeepsFill self.new }
-        ensures store { IsSameStore self.old self.new }
+        ensures store { IsOfSameStore self.old self.new }
     {
         moves_keep_facts();
         what_is_due();
@@ -135,7 +135,7 @@ impl<D: PageDisk> Driver<D> {
             (driven D.PageDisk self.new) }
         ensures channels { AreChannelsOf self.new.plant.at.rows self.new.channels }
         ensures fill { StillKeepsFill self.old self.new }
-        ensures store { IsSameStore self.old self.new }
+        ensures store { IsOfSameStore self.old self.new }
     {
         state_turns();
         self.plant.keeps();
@@ -155,7 +155,7 @@ impl<D: PageDisk> Driver<D> {
         ensures step { Steps D.tells self.old.plant.opening.super (actor_in_run actor) (driven D.PageDisk self.old)
             (driven D.PageDisk self.new) }
         ensures driven { IsDriven D.PageDisk self.new }
-        ensures store { IsSameStore self.old self.new }
+        ensures store { IsOfSameStore self.old self.new }
     {
         steps_are_moves();
         rows_stay_plain();
@@ -172,7 +172,7 @@ impl<D: PageDisk> Driver<D> {
         ensures round { Round (Steps D.tells self.old.plant.opening.super) has_all_ended (driven D.PageDisk self.old)
             (driven D.PageDisk self.new) }
         ensures driven { IsDriven D.PageDisk self.new }
-        ensures store { IsSameStore self.old self.new }
+        ensures store { IsOfSameStore self.old self.new }
     {
         for channel in 0..16 {
             self.step(alloc, Actor::Channel(channel));
@@ -186,7 +186,7 @@ impl<D: PageDisk> Driver<D> {
         ensures scheduled { Scheduled (Steps D.tells self.old.plant.opening.super) has_all_ended
             (actors_in_run actors.now) (driven D.PageDisk self.old) (driven D.PageDisk self.new) }
         ensures driven { IsDriven D.PageDisk self.new }
-        ensures store { IsSameStore self.old self.new }
+        ensures store { IsOfSameStore self.old self.new }
     {
         for actor in actors {
             self.step(alloc, *actor);
@@ -200,7 +200,7 @@ impl<D: PageDisk> Driver<D> {
             (actors_in_run (repeated part.now.count part.now.actors)) (driven D.PageDisk self.old)
             (driven D.PageDisk self.new) }
         ensures driven { IsDriven D.PageDisk self.new }
-        ensures store { IsSameStore self.old self.new }
+        ensures store { IsOfSameStore self.old self.new }
     {
         for _ in 0..part.count {
             self.follow_actors(alloc, part.actors.as_slice());
@@ -213,7 +213,7 @@ impl<D: PageDisk> Driver<D> {
         ensures scheduled { Scheduled (Steps D.tells self.old.plant.opening.super) has_all_ended
             (actors_in_run schedule.now) (driven D.PageDisk self.old) (driven D.PageDisk self.new) }
         ensures driven { IsDriven D.PageDisk self.new }
-        ensures store { IsSameStore self.old self.new }
+        ensures store { IsOfSameStore self.old self.new }
     {
         for part in schedule.parts() {
             self.follow_part(alloc, part);
@@ -237,7 +237,7 @@ impl<D: PageDisk> Driver<D> {
         ensures follows { StoreFollows D.tells (actors_in_run schedule.now) (driven D.PageDisk self.old)
             (driven D.PageDisk self.new) }
         ensures driven { IsDriven D.PageDisk self.new }
-        ensures store { IsSameStore self.old self.new }
+        ensures store { IsOfSameStore self.old self.new }
     {
         rounds_end();
         self.follow(alloc, schedule);

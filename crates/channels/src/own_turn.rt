@@ -5,7 +5,7 @@ ghost use Rattle.volume_model.specs.declared.reply.Msg.{Msg as AMsg};
 ghost use Rattle.data_path.specs.declared.reading.Stage.TheVariants.{Again, Logged, Send, Waiting};
 ghost use Rattle.running_store.specs.StoreView.{state_of};
 ghost use Rattle.run_moves.specs.DriverSteps.{ChannelTurn};
-ghost use Rattle.channels.specs.ChannelSteps.{IsHeldUp, Posts};
+ghost use Rattle.channels.specs.ChannelSteps.{IsHeldUp, PostsRow};
 
 use data_path::{Stage, read_turn};
 use page_disk::PageDisk;
@@ -17,7 +17,7 @@ pub(crate) fn own_turn<D: PageDisk>(plant: &mut Plant<D>, channel: u8) -> Stage
     requires low { channel < 16 }
     ensures turns { (result ≡ Again) ⊎ (result ≡ Logged)
         → ChannelTurn D.tells (state_of D.PageDisk plant.old.at) (state_of D.PageDisk plant.new.at) channel }
-    ensures posts { (msg : AMsg) → result ≡ Send msg → Posts D.PageDisk plant.old.at plant.new.at channel msg }
+    ensures posts { (msg : AMsg) → result ≡ Send msg → PostsRow D.PageDisk plant.old.at plant.new.at channel msg }
     ensures waits { result ≡ Waiting → IsHeldUp (state_of D.PageDisk plant.old.at) channel }
     ensures waiting { result ≡ Waiting → plant.new ≡ plant.old }
     ensures opening { plant.new.opening ≡ plant.old.opening }

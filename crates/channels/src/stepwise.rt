@@ -6,7 +6,7 @@ ghost use Rattle.store_model.specs.Rows.{fill_row};
 ghost use Rattle.store_model.specs.Repairing.{IsRepaired};
 ghost use Rattle.running_store.specs.StoreView.{rows_of, state_of};
 ghost use Rattle.channels.specs.Actors.{actors_in_run};
-ghost use Rattle.channels.specs.RunEnds.{end_of, ended_row};
+ghost use Rattle.channels.specs.RunEnds.{run_end_of, ended_row};
 ghost use Rattle.channels.specs.StepwiseRuns.{RunsStepwise};
 
 use crate::driver::Driver;
@@ -44,7 +44,7 @@ pub fn run_stepwise<D: PageDisk>(
     ensures unused { rows_of result.0.at.rows fill_row ≡ unused_row }
     ensures no_job { result.0.at.job ≡ None }
     ensures repaired { IsRepaired (state_of D.PageDisk result.0.at) }
-    ensures end { result.2 ≡ end_of result.0.at.stopped }
+    ensures end { result.2 ≡ run_end_of result.0.at.stopped }
     ensures opening { result.0.opening ≡ plant.opening }
     ensures right { (result.1 ≡ right) × (result.0.right ≡ plant.right) }
 {

@@ -9,7 +9,7 @@ use Rattle.md_chain.specs.Chain.{is_among}
 use Rattle.md_chain.specs.declared.plan.PlannedPage.{PlannedPage}
 use Rattle.shown_volumes.proofs.Inside.{inside_slot}
 use Rattle.store_model.specs.Cases.WritePage.{WritesAt}
-use Rattle.store_model.specs.Jobs.{CanReplace, gained_by, JobStands, Lays, Puts}
+use Rattle.store_model.specs.Jobs.{CanReplace, gained_by, JobStands, Lays, IsLeftOfInsert}
 use Rattle.store_model.specs.Phases.{Committing, Phase, Replaces, Replacing, taken_by, taken_in, Zeros}
 use Rattle.store_model.specs.Places.{claimed_by, held_by, UsedPages}
 use Rattle.store_model.specs.RunInvariant.{AreStored, RunsWell}
@@ -77,7 +77,7 @@ module _ (known : Known) where
   zeroed_behind page running =
       let j = running.job in
       let none = inserted_none p.rows j.serves
-      (λ row serves. subst (Puts p row) running.next ((stood running).inserts row serves).puts) in
+      (λ row serves. subst (IsLeftOfInsert p row) running.next ((stood running).inserts row serves).puts) in
       let among : is_among (page / cluster_pages_of p.super) (claimed_by p.job) ≡ true =
       ap (λ o. is_among (page / cluster_pages_of p.super) (claimed_by o)) running.is
       ∙ subst (λ l. is_among (page / cluster_pages_of p.super) (l ++ j.claimed) ≡ true) none (lays running).0 in

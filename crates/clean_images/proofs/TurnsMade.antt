@@ -26,7 +26,7 @@ use Rattle.store_model.specs.Recovers.{SaysInUse}
 use Rattle.store_model.specs.Rows.{OpenClaim, Row, Stage}
 use Rattle.store_model.specs.StoreState.{JobState, planned_at, StoreState}
 use Rattle.store_model.specs.Touches.{is_lasting, no_new, puts, replaces, Touch, untouched}
-use Rattle.store_model.specs.Turning.{page_of_place, put_by, read_after, Runs}
+use Rattle.store_model.specs.Turning.{page_of_place, put_by, read_after_write, Runs}
 use Rattle.store_model.proofs.CopyTurning.{claimed_behind}
 use Rattle.store_model.proofs.Known.{Known}
 use Rattle.clean_images.specs.CleanImages.{MarksFirst}
@@ -180,7 +180,7 @@ module _ (known : Known) (told : Bool) (first : MarksFirst known.p) where
           (λ runs. false≢true (sym (clean_is t.next) ∙ runs.0));
       goes = is_marked t.page (says_here t.page t.says) refl
           (λ is. ap (λ (v : StoreState). v.device.reads 0) t.next ∙ ap (λ (i : Image). i 0) t.moves.reads
-          ∙ ap (λ (b : Bool). read_after b p.device.reads 0 t.page 0) is ∙ with_page-here p.device.reads 0 t.page)
+          ∙ ap (λ (b : Bool). read_after_write b p.device.reads 0 t.page 0) is ∙ with_page-here p.device.reads 0 t.page)
           (clean_is t.next);
     }
 

@@ -1,7 +1,7 @@
 -- A store is unloaded: the masks are written, and then the super block.
 use Rattle.std.proofs.Common.{◌≡◌, inl, inr, ⊎_elim, ap, subst, sym, ◌∙◌, arith, IsTrue}
 use Rattle.clean_stop.specs.Masks.{HasMasks, IsMaskPage, MasksFit}
-use Rattle.clean_stop.specs.Stopping.{with_clean, IsPageOf, IsUnloaded, IsUnloading}
+use Rattle.clean_stop.specs.Stopping.{with_clean, IsSuperPage, IsUnloaded, IsUnloading}
 use Rattle.clean_stop.proofs.Places.{MasksPlaced}
 use Rattle.clean_stop.proofs.Written.{mask_stays, resized}
 use Rattle.page_disk.specs.Disk.{Image, Telling, with_page}
@@ -16,7 +16,7 @@ use Rattle.super_block.specs.declared.page.Super.{Super}
 
 module _ (s : Super) (masks : Masks) (fit : MasksFit s masks) (placed : MasksPlaced s) (old mid : Image)
     (same : SameBut (IsMaskPage s) old mid) (whole : HasMasks s masks mid)
-    (read : IsPageOf (with_clean 1 s) (super_bytes (with_clean 1 s))) where
+    (read : IsSuperPage (with_clean 1 s) (super_bytes (with_clean 1 s))) where
   -- every page but the super block's is as it was when the masks were written
   elsewhere : (new : Image) → new ≡ with_page mid 0 (super_bytes (with_clean 1 s)) → SameBut (λ page. page ≡ 0) mid new
   elsewhere new is page other =
@@ -28,7 +28,7 @@ module _ (s : Super) (masks : Masks) (fit : MasksFit s masks) (placed : MasksPla
       let stays = elsewhere new is in
       record {
         super =
-            subst (IsPageOf (with_clean 1 s))
+            subst (IsSuperPage (with_clean 1 s))
             (sym (ap (λ (i : Image). i 0) is ∙ with_page-here mid 0 (super_bytes (with_clean 1 s)))) read;
         whole = record {
           pages =
@@ -55,7 +55,7 @@ module _ (s : Super) (masks : Masks) (fit : MasksFit s masks) (placed : MasksPla
 -- what a crash leaves while the masks and then the super block are written
 pub unloading : {D : Type 0} (d : Ghosts D) → (IsTrue d.tells → Telling d.now d.images d.since d.clock) → (s : Super)
     (masks : Masks) → MasksFit s masks → MasksPlaced s → (first mid last : D) → WritesOnly d (IsMaskPage s) first mid
-    → (IsTrue d.tells → HasMasks s masks (d.now mid)) → IsPageOf (with_clean 1 s) (super_bytes (with_clean 1 s))
+    → (IsTrue d.tells → HasMasks s masks (d.now mid)) → IsSuperPage (with_clean 1 s) (super_bytes (with_clean 1 s))
     → CallsLeaveOnly d mid last (IsReplaced (d.images mid) (d.now mid) 0 (super_bytes (with_clean 1 s)))
     → CallsLeaveOnly d first last (IsUnloading s masks (d.images first) (d.now first))
 unloading d law s masks fit placed first mid last only whole read replaced told =

@@ -13,7 +13,7 @@ abbrev pub with_clean : ℕ → Super → Super
 with_clean clean s = record s { clean = clean }
 
 -- The page is that of the super block: it is read without a fault, and as this one, but for its sum.
-pub record IsPageOf (s : Super) (page : List ℕ) : Type 0 where
+pub record IsSuperPage (s : Super) (page : List ℕ) : Type 0 where
   pub bytes : page ≡ super_bytes s
   pub faultless : super_fault page s.device_pages ≡ None
   pub sum : ℕ
@@ -21,7 +21,7 @@ pub record IsPageOf (s : Super) (page : List ℕ) : Type 0 where
 
 -- The super block says that the store is clean, and the masks are whole. All other pages are as before.
 pub record IsUnloaded (s : Super) (masks : Masks) (old new : Image) : Type 0 where
-  pub super : IsPageOf (with_clean 1 s) (new 0)
+  pub super : IsSuperPage (with_clean 1 s) (new 0)
   pub whole : HasMasks s masks new
   pub others : SameBut (λ page. (page ≡ 0) ⊎ IsMaskPage s page) old new
 

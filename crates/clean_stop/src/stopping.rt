@@ -2,7 +2,7 @@
 
 ghost use Rattle.std.specs.Prelude.{◌≡◌, ◌≢◌, ◌≤◌, ◌<◌, ◌+◌, OnOk, OnErr, IsTrue};
 ghost use Rattle.clean_stop.specs.Masks.{MasksFit};
-ghost use Rattle.clean_stop.specs.Stopping.{with_clean, IsPageOf, IsUnloaded, IsUnloading};
+ghost use Rattle.clean_stop.specs.Stopping.{with_clean, IsSuperPage, IsUnloaded, IsUnloading};
 ghost use Rattle.page_disk.specs.Disk.{HasCause, Only, with_page};
 ghost use Rattle.page_disk.specs.Moments.{CallsLeaveOnly, IsReplaced};
 ghost use Rattle.super_block.specs.Faults.{IsFaultless};
@@ -26,7 +26,7 @@ pub fn mark_dirty<D: PageDisk>(disk: &mut D, sup: &mut Super) -> Result<(), Disk
     // A crash at any moment leaves one of the images from before, or the super block replaced by the one that says so.
     ensures any_moment { CallsLeaveOnly D.PageDisk disk.old disk.new
         (IsReplaced (D.images disk.old) (D.now disk.old) 0 (super_bytes (with_clean 0 sup.old))) }
-    ensures read { IsPageOf (with_clean 0 sup.old) (super_bytes (with_clean 0 sup.old)) }
+    ensures read { IsSuperPage (with_clean 0 sup.old) (super_bytes (with_clean 0 sup.old)) }
 
     ensures marked { IsTrue D.tells
         → OnOk result (D.now disk.new ≡ with_page (D.now disk.old) 0 (super_bytes (with_clean 0 sup.old))) }

@@ -1,7 +1,7 @@
 //! The super block is written anew.
 
 ghost use Rattle.std.specs.Prelude.{◌≡◌, ◌≤◌, ◌+◌, OnOk, OnErr, IsTrue};
-ghost use Rattle.clean_stop.specs.Stopping.{with_clean, IsPageOf};
+ghost use Rattle.clean_stop.specs.Stopping.{with_clean, IsSuperPage};
 ghost use Rattle.page_disk.specs.Disk.{HasCause, Only, with_page};
 ghost use Rattle.page_disk.specs.Moments.{CallsLeaveOnly, IsReplaced};
 ghost use Rattle.super_block.specs.Faults.{IsFaultless};
@@ -21,7 +21,7 @@ pub fn replace_super<D: PageDisk>(
     requires device { sup.old.device_pages ≤ D.pages disk.old }
     ensures set { OnOk result (sup.new ≡ with_clean clean sup.old) }
     ensures kept { OnErr result (sup.new ≡ sup.old) }
-    ensures read { IsPageOf (with_clean clean sup.old) (super_bytes (with_clean clean sup.old)) }
+    ensures read { IsSuperPage (with_clean clean sup.old) (super_bytes (with_clean clean sup.old)) }
     ensures any_moment { CallsLeaveOnly D.PageDisk disk.old disk.new
         (IsReplaced (D.images disk.old) (D.now disk.old) 0 (super_bytes (with_clean clean sup.old))) }
     ensures replaced { IsTrue D.tells

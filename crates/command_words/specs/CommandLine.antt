@@ -4,8 +4,8 @@ use Rattle.clap.specs.Walk.{Rule, Text}
 use Rattle.clap.specs.Simple.{App, Shape, new_rule, new_shape}
 
 -- an argument that is known by its place, and has to be there
-abbrev pub placed : Text → Rule
-placed id = record (new_rule id) { required = true }
+abbrev pub placed_rule : Text → Rule
+placed_rule id = record (new_rule id) { required = true }
 
 -- an option with a value, `--NAME VALUE`
 abbrev pub option : Text → Rule
@@ -16,13 +16,13 @@ abbrev pub subcommand : Text → List Rule → Shape
 subcommand name rules = record (new_shape name) { rules = rules }
 
 abbrev pub run_line : Shape
-run_line = subcommand (codes "run") (placed (codes "IMAGE") ∷ option (codes "schedule") ∷ [])
+run_line = subcommand (codes "run") (placed_rule (codes "IMAGE") ∷ option (codes "schedule") ∷ [])
 
 -- with the options on sizes
 abbrev pub sized_format_line : Shape
 sized_format_line =
     subcommand (codes "format")
-    (placed (codes "IMAGE") ∷ option (codes "cluster") ∷ option (codes "md-pages") ∷ [])
+    (placed_rule (codes "IMAGE") ∷ option (codes "cluster") ∷ option (codes "md-pages") ∷ [])
 
 -- and with those that make a logical volume store
 abbrev pub format_line : Shape
@@ -31,15 +31,15 @@ format_line = record sized_format_line {
 }
 
 abbrev pub list_line : Shape
-list_line = subcommand (codes "list") (placed (codes "IMAGE") ∷ [])
+list_line = subcommand (codes "list") (placed_rule (codes "IMAGE") ∷ [])
 
 abbrev pub generate_line : Shape
-generate_line = subcommand (codes "generate") (placed (codes "NUMBER") ∷ placed (codes "SIZE") ∷ [])
+generate_line = subcommand (codes "generate") (placed_rule (codes "NUMBER") ∷ placed_rule (codes "SIZE") ∷ [])
 
 abbrev pub exercise_line : Shape
 exercise_line =
     subcommand (codes "exercise")
-    (placed (codes "IMAGE") ∷ placed (codes "NUMBER") ∷ placed (codes "SIZE") ∷ [])
+    (placed_rule (codes "IMAGE") ∷ placed_rule (codes "NUMBER") ∷ placed_rule (codes "SIZE") ∷ [])
 
 -- The words are those behind the program's name. One of them names a subcommand; without words the answer is the help,
 -- and there is a version to ask for.

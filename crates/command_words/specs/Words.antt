@@ -34,8 +34,8 @@ pub data Asked : Type 0 where
   -- an image, a number and a size
   exercise : Text → Text → Text → Asked
 
-abbrev pub run_by : List Row → Option Asked
-run_by rows = option_map (λ image. run image (first_of (codes "schedule") rows)) (first_of (codes "IMAGE") rows)
+abbrev pub run_asked : List Row → Option Asked
+run_asked rows = option_map (λ image. run image (first_of (codes "schedule") rows)) (first_of (codes "IMAGE") rows)
 
 abbrev pub options_by : List Row → FormatTexts
 options_by rows = record {
@@ -65,7 +65,7 @@ exercise_by rows =
 -- the command that a subcommand is, with what was found behind it
 abbrev pub asked_by : Text → List Row → Option Asked
 asked_by name rows =
-    if bytes_eq name (codes "run") then run_by rows
+    if bytes_eq name (codes "run") then run_asked rows
     else (if bytes_eq name (codes "format") then format_by rows
     else (if bytes_eq name (codes "list") then list_by rows
     else (if bytes_eq name (codes "generate") then generate_by rows

@@ -11,7 +11,7 @@ use std::alloc::{AllocError, Global};
 
 /// An argument that is known by its place, and has to be there.
 fn placed<'a>(alloc: Global, id: &'a str, help: &'a str) -> Arg<'a>
-    ensures rule { rule_of result ≡ said.placed id.entry.now }
+    ensures rule { rule_of result ≡ said.placed_rule id.entry.now }
     ensures local { result.global ≡ false }
 {
     Arg::new(alloc, id).required(true).help(help)

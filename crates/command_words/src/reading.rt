@@ -86,7 +86,7 @@ fn text_of<'a>(found: &ArgMatches<'a>, id: &str) -> Option<&'a str>
 
 /// A `run` with what was found behind it.
 fn run_of<'a>(found: &ArgMatches<'a>) -> Option<CommandWords<'a>>
-    ensures { option_map as_read result ≡ said.run_by (rows_of (found_of found.now)) }
+    ensures { option_map as_read result ≡ said.run_asked (rows_of (found_of found.now)) }
 {
     let image = text_of(found, "IMAGE")?;
     let schedule = text_of(found, "schedule");

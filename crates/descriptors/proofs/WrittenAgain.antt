@@ -16,7 +16,7 @@ use Rattle.descriptors.specs.declared.item.Item.TheVariants.{Rle, Xattr, Flags, 
 use Rattle.descriptors.specs.Numbers.{number_from}
 use Rattle.descriptors.specs.Rows.{spelled_runs, rle, pair_in, flags, row, xattr_of, internal_of}
 use Rattle.descriptors.specs.Grammar.{Descriptor, Spells, short, ends, adds}
-use Rattle.descriptors.specs.Writing.{run_bytes, pair_bytes, flags_bytes, kind_of_item, body_of, framed, item_bytes}
+use Rattle.descriptors.specs.Writing.{run_bytes, pair_bytes, flags_bytes, kind_of_item, item_body, framed, item_bytes}
 use Rattle.descriptors.specs.Writing.{item_size, spelled_size, spelling, RunFits, ItemFits, IsWritable}
 use Rattle.page_fields.specs.Fields.{number, number_bytes}
 use Rattle.descriptors.proofs.ReadingSteps.{number_from-drop}
@@ -103,7 +103,7 @@ rle_again runs some fits =
     rw (not_empty, whole, count, again) refl
 
 row_again : (item : Item) → IsWritable item → ItemFits item → item_size item < 2 ^ 16
-    → row (kind_of_item item) (body_of item) ≡ Some item
+    → row (kind_of_item item) (item_body item) ≡ Some item
 row_again (Rle runs) w f small = rle_again runs w f
 row_again (Xattr key value) w f small = ap xattr_of (pair_again key value (omega arith) (omega arith))
 row_again (Flags a b c) w f small = flags_again a b c f.0 f.1 f.2
@@ -182,12 +182,12 @@ again [] n w f lt = zeros_end n
 again (item ∷ items) n w f lt =
     let rest : List ℕ = spelling items ++ zeros n in
     let whole : spelled_size (item ∷ items) ≡ item_size item + spelled_size items = sum_by-cons item_size item items in
-    let sized : 5 + length (body_of item) ≡ item_size item =
-    sym (length-framed (kind_of_item item) (body_of item)) ∙ length-item_bytes item in
-    let d : Descriptor (framed (kind_of_item item) (body_of item) ++ rest) (kind_of_item item) (body_of item) rest =
-    head_again (kind_of_item item) (body_of item) rest (omega arith) in
+    let sized : 5 + length (item_body item) ≡ item_size item =
+    sym (length-framed (kind_of_item item) (item_body item)) ∙ length-item_bytes item in
+    let d : Descriptor (framed (kind_of_item item) (item_body item) ++ rest) (kind_of_item item) (item_body item) rest =
+    head_again (kind_of_item item) (item_body item) rest (omega arith) in
     let s : Spells (item_bytes item ++ rest) (item ∷ items) =
-    adds _ (kind_of_item item) (body_of item) rest item items d (kind_above item w.0)
+    adds _ (kind_of_item item) (item_body item) rest item items d (kind_above item w.0)
     (row_again item w.0 f.0 (omega arith)) (again items n w.1 f.1 (omega arith)) in
     subst (λ (b : List ℕ). Spells b (item ∷ items)) (sym (append_assoc (item_bytes item) (spelling items) (zeros n))) s
 

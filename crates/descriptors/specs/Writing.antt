@@ -27,12 +27,12 @@ kind_of_item (InternalXattr key value) = 4
 kind_of_item (Unknown kind) = kind
 
 -- the bytes after the head; those of an unknown type aren't known
-abbrev pub body_of : Item → List ℕ
-body_of (Rle runs) = flat_map run_bytes runs
-body_of (Xattr key value) = pair_bytes key value
-body_of (Flags invalid data_ro md_ro) = flags_bytes invalid data_ro md_ro
-body_of (InternalXattr key value) = pair_bytes key value
-body_of (Unknown kind) = []
+abbrev pub item_body : Item → List ℕ
+item_body (Rle runs) = flat_map run_bytes runs
+item_body (Xattr key value) = pair_bytes key value
+item_body (Flags invalid data_ro md_ro) = flags_bytes invalid data_ro md_ro
+item_body (InternalXattr key value) = pair_bytes key value
+item_body (Unknown kind) = []
 
 -- a head and its bytes
 abbrev pub framed : ℕ → List ℕ → List ℕ
@@ -40,7 +40,7 @@ framed kind body = kind ∷ (number_bytes 4 (length body) ++ body)
 
 -- the descriptor of an item
 abbrev pub item_bytes : Item → List ℕ
-item_bytes item = framed (kind_of_item item) (body_of item)
+item_bytes item = framed (kind_of_item item) (item_body item)
 
 -- how many bytes it takes
 abbrev pub item_size : Item → ℕ

@@ -9,7 +9,7 @@ use Rattle.std.proofs.lemmas.List.Elements.{All-cons, All-nil, All-weaker}
 use Rattle.std.proofs.lemmas.List.Kept.{AllPairs-cons}
 use Rattle.io_freeze.specs.Calls.{GuardsCall, guards_after_all, all_drawn_by}
 use Rattle.io_freeze.specs.Calls.GuardsCall.{Add, Remove, Freeze, Release, Renew}
-use Rattle.io_freeze.specs.Guards.{GuardsState, frozen_at, released, removed, renewed}
+use Rattle.io_freeze.specs.Guards.{GuardsState, frozen_at, released, guard_removed, renewed}
 use Rattle.io_freeze.proofs.Found.{tied, tied-same, tied-apart}
 
 -- one number more
@@ -24,7 +24,7 @@ pub drawn-above : (g : GuardsState) (calls : List GuardsCall) → All (λ number
 drawn-above g [] = All-nil (λ n. g.drawn < n)
 drawn-above g (Add head ∷ calls) =
     more_above g (all_drawn_by (renewed g head) calls) (drawn-above (renewed g head) calls)
-drawn-above g (Remove head ∷ calls) = drawn-above (removed g head) calls
+drawn-above g (Remove head ∷ calls) = drawn-above (guard_removed g head) calls
 drawn-above g (Freeze head ∷ calls) = drawn-above (frozen_at g head) calls
 drawn-above g (Release head ∷ calls) = drawn-above (released g head) calls
 drawn-above g (Renew head ∷ calls) =
@@ -37,7 +37,7 @@ drawn-rises g [] = λ i j d lt within. absurd (omega arith)
 drawn-rises g (Add head ∷ calls) =
     AllPairs-cons (λ a b. a < b) (g.drawn + 1) (all_drawn_by (renewed g head) calls)
     (drawn-above (renewed g head) calls) (drawn-rises (renewed g head) calls)
-drawn-rises g (Remove head ∷ calls) = drawn-rises (removed g head) calls
+drawn-rises g (Remove head ∷ calls) = drawn-rises (guard_removed g head) calls
 drawn-rises g (Freeze head ∷ calls) = drawn-rises (frozen_at g head) calls
 drawn-rises g (Release head ∷ calls) = drawn-rises (released g head) calls
 drawn-rises g (Renew head ∷ calls) =
@@ -68,7 +68,7 @@ after_a_draw g at head number numbers (inl has) =
     ]
 
 after_a_remove : (g : GuardsState) (at head number : ℕ) (numbers : List ℕ)
-    → HadOrDrawn (removed g at) numbers head number → HadOrDrawn g numbers head number
+    → HadOrDrawn (guard_removed g at) numbers head number → HadOrDrawn g numbers head number
 after_a_remove g at head number numbers (inr found) = inr found
 after_a_remove g at head number numbers (inl has) =
     let put : map.get (map.remove g.generations at) head ≡ cond (tied head at) None (map.get g.generations head) =
@@ -90,7 +90,7 @@ had_or_drawn g [] head number has = inl has
 had_or_drawn g (Add at ∷ calls) head number has =
     after_a_draw g at head number _ (had_or_drawn (renewed g at) calls head number has)
 had_or_drawn g (Remove at ∷ calls) head number has =
-    after_a_remove g at head number _ (had_or_drawn (removed g at) calls head number has)
+    after_a_remove g at head number _ (had_or_drawn (guard_removed g at) calls head number has)
 had_or_drawn g (Freeze at ∷ calls) head number has = had_or_drawn (frozen_at g at) calls head number has
 had_or_drawn g (Release at ∷ calls) head number has = had_or_drawn (released g at) calls head number has
 had_or_drawn g (Renew at ∷ calls) head number has =

@@ -9,7 +9,7 @@ use Rattle.std.proofs.lemmas.Bool.{cases_eq}
 use Rattle.std.proofs.lemmas.List.{get_or-set_same, get_or-set_other, length-set}
 use Rattle.std.proofs.lemmas.List.Quantifiers.{all_pairs_remove}
 use Rattle.io_freeze.specs.declared.rows.Row.{Row}
-use Rattle.io_freeze.specs.Guards.{GuardsState, frozen_at, released, removed, renewed}
+use Rattle.io_freeze.specs.Guards.{GuardsState, frozen_at, released, guard_removed, renewed}
 use Rattle.io_freeze.specs.Rows.{Rises, IsAt, IsGap, generations_in, frozen_in}
 use Rattle.io_freeze.proofs.Found.{row_of, row_of-none, generation_of, is_marked, get-generations_in}
 use Rattle.io_freeze.proofs.Found.{contains-frozen_in}
@@ -117,7 +117,7 @@ module _ (rows : List Row) (head place : ℕ) (read : Row) (rises : Rises rows) 
 -- the row of a head taken out
 module _ (rows : List Row) (head place : ℕ) (rises : Rises rows) (at : IsAt rows head place) where
   -- the head is held no longer
-  pub seen-remove : (drawn room : ℕ) → seen (remove rows place) drawn room ≡ removed (seen rows drawn room) head
+  pub seen-remove : (drawn room : ℕ) → seen (remove rows place) drawn room ≡ guard_removed (seen rows drawn room) head
   seen-remove drawn room =
       let changes : Changes rows (remove rows place) head None =
       remove-Changes rows place head at.within at.there (none_before rows head place rises at)
@@ -167,7 +167,7 @@ module _ (rows : List Row) (head place : ℕ) (rises : Rises rows) (gap : IsGap 
   same_marks = frozen_taken rows rows head None (absent-Changes rows head none_there) rises rises refl
 
   -- to remove the head changes nothing
-  pub absent_removed : (drawn room : ℕ) → seen rows drawn room ≡ removed (seen rows drawn room) head
+  pub absent_removed : (drawn room : ℕ) → seen rows drawn room ≡ guard_removed (seen rows drawn room) head
   absent_removed drawn room =
       let numbers = generations_taken rows rows head None (absent-Changes rows head none_there) refl in
       λ i. record { generations = numbers i; frozen = same_marks i; drawn = drawn; room = room }

@@ -1,6 +1,6 @@
 -- Lists of calls of guards, and the numbers that they draw.
 use Rattle.std.specs.Prelude.{ℕ, ◌+◌, List, [], ◌∷◌, ◌++◌}
-use Rattle.io_freeze.specs.Guards.{GuardsState, renewed, removed, frozen_at, released}
+use Rattle.io_freeze.specs.Guards.{GuardsState, renewed, guard_removed, frozen_at, released}
 
 -- a call that changes guards, with its head
 pub data GuardsCall : Type 0 where
@@ -13,7 +13,7 @@ pub data GuardsCall : Type 0 where
 -- the guards after a call; adding a head draws its first number as a renewal draws its next
 abbrev pub guards_after : GuardsState → GuardsCall → GuardsState
 guards_after g (Add head) = renewed g head
-guards_after g (Remove head) = removed g head
+guards_after g (Remove head) = guard_removed g head
 guards_after g (Freeze head) = frozen_at g head
 guards_after g (Release head) = released g head
 guards_after g (Renew head) = renewed g head

@@ -33,8 +33,8 @@ abbrev pub renewed : GuardsState → ℕ → GuardsState
 renewed g head = record g { generations = map.insert g.generations head (g.drawn + 1); drawn = g.drawn + 1 }
 
 -- the head is no longer held, and so not frozen either
-abbrev pub removed : GuardsState → ℕ → GuardsState
-removed g head = record g { generations = map.remove g.generations head; frozen = set.remove g.frozen head }
+abbrev pub guard_removed : GuardsState → ℕ → GuardsState
+guard_removed g head = record g { generations = map.remove g.generations head; frozen = set.remove g.frozen head }
 
 -- the head is frozen
 abbrev pub frozen_at : GuardsState → ℕ → GuardsState

@@ -30,7 +30,7 @@ abbrev pub frozen_in : List Row → set.FinSet nat_cmp
 frozen_in rows = set.from_list (mapped (λ row. row.head) (filter (λ row. row.frozen) rows))
 
 -- the rows' heads rise, their generations were drawn, and they fit into the room, for which there is memory
-pub record IsKept (rows : List Row) (capacity drawn room : ℕ) : Type 0 where
+pub record AreGuardRows (rows : List Row) (capacity drawn room : ℕ) : Type 0 where
   pub rises : Rises rows
   pub numbered : All (λ row. row.generation ≤ drawn) rows
   pub within : length rows ≤ room

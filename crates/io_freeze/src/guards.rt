@@ -23,7 +23,7 @@ impl Model for Guards {
 
     ghost coded = { guards_code };
 
-    ghost use Rattle.io_freeze.specs.Rows.{IsKept, frozen_in, generations_in};
+    ghost use Rattle.io_freeze.specs.Rows.{AreGuardRows, frozen_in, generations_in};
 
     ghost view = { λ g.
         record {
@@ -33,7 +33,7 @@ impl Model for Guards {
           room = g.room;
         } };
 
-    ghost invariant = { λ g. IsKept g.rows.items (vec_capacity g.rows) g.drawn g.room };
+    ghost invariant = { λ g. AreGuardRows g.rows.items (vec_capacity g.rows) g.drawn g.room };
 }
 
 impl Guards {
@@ -41,7 +41,7 @@ impl Guards {
     ghost use Rattle.std.specs.Prelude.{false};
     ghost use Rattle.std.specs.FinMap as map;
     ghost use Rattle.std.specs.FinSet as set;
-    ghost use Rattle.io_freeze.specs.Guards.{frozen_at, no_guards, released, removed, renewed};
+    ghost use Rattle.io_freeze.specs.Guards.{frozen_at, no_guards, released, guard_removed, renewed};
 
     /// No head is held, and there is room for this many.
     pub fn new(alloc: Global, room: u32) -> Result<Guards, Memory>
@@ -99,7 +99,7 @@ impl Guards {
 
     /// Holds a head no longer, and ends its freeze. A head that isn't held stays so.
     pub fn remove(&mut self, head: u32)
-        ensures { self.new ≡ removed self.old head }
+        ensures { self.new ≡ guard_removed self.old head }
     {
         if let Ok(place) = place_of(&self.rows, head) {
             self.rows.remove(place);

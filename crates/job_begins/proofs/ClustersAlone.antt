@@ -8,7 +8,7 @@ use Rattle.std.specs.Prelude.{slice_set}
 use Rattle.bit_array.specs.Bits.{is_in}
 use Rattle.super_block.specs.declared.page.Super.{Super}
 use Rattle.blob_meta.specs.declared.meta.Meta.{Meta}
-use Rattle.blob_meta.specs.Faults.{clusters_of}
+use Rattle.blob_meta.specs.Faults.{clusters_held}
 use Rattle.blob_meta.specs.Parents.{slot}
 use Rattle.md_chain.specs.Chain.{is_among}
 use Rattle.store_model.specs.Jobs.{MovesClusters}
@@ -172,7 +172,7 @@ module _ (s : Super) (base : Metas) (stored : AreStored s base) (head : ℕ) (ol
 -- the clusters of so many slots are added to a set
 pub record Adds (old : List Bool) (slots : List (Option ℕ)) (i : ℕ) (now : List Bool) : Type 0 where
   pub count : length now ≡ length old
-  pub so_far : all_set now (clusters_of (drop i slots)) true ≡ all_set old (clusters_of slots) true
+  pub so_far : all_set now (clusters_held (drop i slots)) true ≡ all_set old (clusters_held slots) true
 
 module _ (old : List Bool) (slots : List (Option ℕ)) (i : ℕ) (d : Option ℕ) (now : List Bool) (low : i < length slots)
     (a : Adds old slots i now) where
@@ -185,32 +185,32 @@ module _ (old : List Bool) (slots : List (Option ℕ)) (i : ℕ) (d : Option ℕ
       → Adds old slots (i + 1) (slice_set now cluster true)
   adds_one cluster is = record {
     count = length-set now cluster true ∙ a.count;
-    so_far = sym (ap (λ l. all_set now (clusters_of l) true) (rest_as (Some cluster) is)) ∙ a.so_far;
+    so_far = sym (ap (λ l. all_set now (clusters_held l) true) (rest_as (Some cluster) is)) ∙ a.so_far;
   }
 
   -- or is empty
   pub adds_none : get_or slots i d ≡ None → Adds old slots (i + 1) now
   adds_none is = record {
     count = a.count;
-    so_far = sym (ap (λ l. all_set now (clusters_of l) true) (rest_as None is)) ∙ a.so_far;
+    so_far = sym (ap (λ l. all_set now (clusters_held l) true) (rest_as None is)) ∙ a.so_far;
   }
 
 -- a slot's cluster is one of the map's
 pub one_of : (slots : List (Option ℕ)) (i cluster : ℕ) (d : Option ℕ) → i < length slots
-    → get_or slots i d ≡ Some cluster → is_among cluster (clusters_of slots) ≡ true
+    → get_or slots i d ≡ Some cluster → is_among cluster (clusters_held slots) ≡ true
 one_of [] i cluster d low is = absurd (omega (arith, low))
 one_of (x ∷ slots) zero cluster d low is =
-    subst (λ (y : Option ℕ). is_among cluster (clusters_of (y ∷ slots)) ≡ true) (sym is)
-    (among_first cluster (clusters_of slots))
+    subst (λ (y : Option ℕ). is_among cluster (clusters_held (y ∷ slots)) ≡ true) (sym is)
+    (among_first cluster (clusters_held slots))
 one_of (None ∷ slots) (suc i) cluster d low is = one_of slots i cluster d (omega (arith, low)) is
 one_of (Some y ∷ slots) (suc i) cluster d low is =
-    among_later cluster y (clusters_of slots) (one_of slots i cluster d (omega (arith, low)) is)
+    among_later cluster y (clusters_held slots) (one_of slots i cluster d (omega (arith, low)) is)
 
 -- all are added
 pub adds_all : (old : List Bool) (slots : List (Option ℕ)) (i : ℕ) (now : List Bool) → length slots ≤ i
-    → Adds old slots i now → now ≡ all_set old (clusters_of slots) true
+    → Adds old slots i now → now ≡ all_set old (clusters_held slots) true
 adds_all old slots i now le a =
-    sym (ap (λ l. all_set now (clusters_of l) true) (none_behind slots i le)) ∙ a.so_far
+    sym (ap (λ l. all_set now (clusters_held l) true) (none_behind slots i le)) ∙ a.so_far
 
 -- ---- head by head
 
@@ -255,10 +255,10 @@ module _ (base : Metas) (head end : ℕ) (bits : List Bool) (has : HasBeside end
 
   -- the clusters of the next are added
   pub beside_more : (m : Meta) → base end ≡ Some m → end ≢ head
-      → ((c : ℕ) → is_among c (clusters_of m.map) ≡ true → c < length bits)
-      → HasBeside (end + 1) base head (all_set bits (clusters_of m.map) true)
+      → ((c : ℕ) → is_among c (clusters_held m.map) ≡ true → c < length bits)
+      → HasBeside (end + 1) base head (all_set bits (clusters_held m.map) true)
   beside_more m there ne low c =
-      let with = set_with bits (clusters_of m.map) low c in (
+      let with = set_with bits (clusters_held m.map) low c in (
         λ set. elim (with.0 set) [
           | inl was ↦ further c ((has c).0 was)
           | inr among ↦ record {
@@ -273,14 +273,14 @@ module _ (base : Metas) (head end : ℕ) (bits : List Bool) (has : HasBeside end
         λ x. with.1 (elim (cases_eq x.other end) [
           | inl e ↦
               let one : x.meta ≡ m = let both = sym x.there ∙ ap base e ∙ there in cc both in
-              inr (subst (λ (n : Meta). is_among c (clusters_of n.map) ≡ true) one x.among)
+              inr (subst (λ (n : Meta). is_among c (clusters_held n.map) ≡ true) one x.among)
           | inr differs ↦ inl ((has c).1 (before c x differs))
         ]),
       )
 
   -- whatever is at the next head
   pub beside_next : end ≢ head → HaveRoom base (length bits) → (after : List Bool)
-      → ((m : Meta) → base end ≡ Some m → after ≡ all_set bits (clusters_of m.map) true)
+      → ((m : Meta) → base end ≡ Some m → after ≡ all_set bits (clusters_held m.map) true)
       → (base end ≡ None → after ≡ bits) → HasBeside (end + 1) base head after
   beside_next ne room after some none = by (base end) refl
     where

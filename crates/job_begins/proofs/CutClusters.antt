@@ -4,7 +4,7 @@ use Rattle.std.proofs.Common.{Some, None, refl, sym, ap, ◌∙◌, subst, inl, 
 use Rattle.std.proofs.lemmas.Bool.{cases_Bool, cases_eq, cases_lt}
 use Rattle.super_block.specs.declared.page.Super.{Super}
 use Rattle.blob_meta.specs.declared.meta.Meta.{Meta}
-use Rattle.blob_meta.specs.Faults.{clusters_of}
+use Rattle.blob_meta.specs.Faults.{clusters_held}
 use Rattle.blob_meta.specs.Parents.{slot}
 use Rattle.blob_meta.specs.Resolving.{IsLawful}
 use Rattle.md_chain.specs.Chain.{is_among}
@@ -25,21 +25,22 @@ pub record IsInSlot (map : List (Option ℕ)) (c : ℕ) : Type 0 where
   pub i : ℕ
   pub at : slot_in map i ≡ Some c
 
-pub in_slot : (map : List (Option ℕ)) (c : ℕ) → is_among c (clusters_of map) ≡ true → IsInSlot map c
+pub in_slot : (map : List (Option ℕ)) (c : ℕ) → is_among c (clusters_held map) ≡ true → IsInSlot map c
 in_slot [] c among = absurd (cc among)
 in_slot (None ∷ map) c among = let x = in_slot map c among in record { i = suc x.i; at = x.at }
-in_slot (Some y ∷ map) c among = elim (among_either c y (clusters_of map) among) [
+in_slot (Some y ∷ map) c among = elim (among_either c y (clusters_held map) among) [
   | inl e ↦ record { i = 0; at = ap Some (sym e) }
   | inr later ↦ let x = in_slot map c later in record { i = suc x.i; at = x.at }
 ]
 
-pub among_slots : (map : List (Option ℕ)) (i c : ℕ) → slot_in map i ≡ Some c → is_among c (clusters_of map) ≡ true
+pub among_slots : (map : List (Option ℕ)) (i c : ℕ) → slot_in map i ≡ Some c → is_among c (clusters_held map) ≡ true
 among_slots [] i c at = absurd (cc at)
 among_slots (None ∷ map) zero c at = absurd (cc at)
 among_slots (None ∷ map) (suc i) c at = among_slots map i c at
 among_slots (Some y ∷ map) zero c at =
-    let e : y ≡ c = cc at in subst (λ n. is_among n (y ∷ clusters_of map) ≡ true) e (among_first y (clusters_of map))
-among_slots (Some y ∷ map) (suc i) c at = among_later c y (clusters_of map) (among_slots map i c at)
+    let e : y ≡ c = cc at in subst (λ n. is_among n (y ∷ clusters_held map) ≡ true) e
+    (among_first y (clusters_held map))
+among_slots (Some y ∷ map) (suc i) c at = among_later c y (clusters_held map) (among_slots map i c at)
 
 -- no cluster is in two slots
 abbrev AreAlone : List (Option ℕ) → Type 0
@@ -48,11 +49,11 @@ AreAlone map = (i j c : ℕ) → slot_in map i ≡ Some c → slot_in map j ≡ 
 alone_behind : (x : Option ℕ) (map : List (Option ℕ)) → AreAlone (x ∷ map) → AreAlone map
 alone_behind x map alone i j c a b = let e = alone (suc i) (suc j) c a b in omega (arith, e)
 
-each_once : (map : List (Option ℕ)) → AreAlone map → AreDistinct (clusters_of map)
+each_once : (map : List (Option ℕ)) → AreAlone map → AreDistinct (clusters_held map)
 each_once [] alone = tt
 each_once (None ∷ map) alone = each_once map (alone_behind None map alone)
 each_once (Some y ∷ map) alone = (
-  elim (cases_Bool (is_among y (clusters_of map))) [
+  elim (cases_Bool (is_among y (clusters_held map))) [
     | inl among ↦
         let x = in_slot map y among in
         absurd (let e = alone 0 (suc x.i) y refl x.at in omega (arith, e))
@@ -79,7 +80,7 @@ module _ (s : Super) (base : Metas) (head : ℕ) (old new : Meta) (slots : ℕ) 
     (lawful : IsLawful s.md_len base) (stored : IsSteady s head old) (map_is : new.map ≡ cut old.map slots None)
   where
     abbrev freed : List ℕ
-    freed = clusters_of (drop slots old.map)
+    freed = clusters_held (drop slots old.map)
 
     alone : AreAlone old.map
     alone i j c a b = (lawful.alone head head i j c old old there there a b).1

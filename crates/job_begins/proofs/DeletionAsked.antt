@@ -7,7 +7,7 @@ use Rattle.volume_model.specs.Volumes.{head_of, two_xattrs, Fixed}
 use Rattle.volume_model.specs.declared.command.Command.{Command}
 use Rattle.volume_model.specs.declared.command.Command.TheVariants as c
 use Rattle.volume_model.specs.declared.command.VolumeRef.{VolumeRef}
-use Rattle.blob_meta.specs.Faults.{clusters_of}
+use Rattle.blob_meta.specs.Faults.{clusters_held}
 use Rattle.blob_meta.specs.Jobs.{create_job, job_of_one, resize_job}
 use Rattle.blob_meta.specs.Parents.{is_locked, slot}
 use Rattle.blob_meta.specs.Repairs.{HasNoMarks}
@@ -210,7 +210,7 @@ module _ (p : StoreState) (running : IsRunning p) (clean : HasNoMarks p.base) (r
   mapped_low : (c : ℕ) → IsMapped p.base c → c < length p.clusters
   mapped_low c mapped = within p.clusters c (well.clusters.mapped c mapped)
 
-  pub going_low : AllBelow (length p.clusters) (clusters_of x.going.map)
+  pub going_low : AllBelow (length p.clusters) (clusters_held x.going.map)
   going_low c among =
       let at = in_slot x.going.map c among in
       mapped_low c (record {
@@ -222,7 +222,7 @@ module _ (p : StoreState) (running : IsRunning p) (clean : HasNoMarks p.base) (r
       })
 
   -- the clone has none that neither had
-  pub taking_low : AllBelow (length p.clusters) (clusters_of x.taking.map)
+  pub taking_low : AllBelow (length p.clusters) (clusters_held x.taking.map)
   taking_low c among =
       let at = in_slot x.taking.map c among in
       let base : Metas = with_entry p.base x.of (going_blob it.old x.clone) in

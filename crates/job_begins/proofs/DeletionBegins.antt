@@ -39,7 +39,7 @@ use Rattle.running_store.specs.declared.replacements.Planned.{Planned}
 use Rattle.job_views.specs.Replacing.{blobs_in}
 use Rattle.job_begins.specs.Begins.{with_begun}
 use Rattle.job_begins.specs.Deletions.{deletion_needs, AreDeletionDrafts, AreDeletionParts, AsksToDelete}
-use Rattle.job_begins.specs.Deletions.{IsDeletionJob}
+use Rattle.job_begins.specs.Deletions.{IsRunningDeletion}
 use Rattle.job_begins.specs.JobPages.{IsShort}
 use Rattle.job_begins.specs.ListPlaces.{HasDeletePlaces}
 use Rattle.job_begins.specs.declared.asking.DeletionAsk.{DeletionAsk}
@@ -158,73 +158,74 @@ module _ {D : Type 0} (d : Ghosts D) (p : StoreView D) (running : IsRunning (sta
   -- ---- once its pages are taken
 
   module _ (parts : DeletionParts) (are : AreDeletionParts p.super.md_len (blobs_in p) (length p.clusters) x parts)
-      (channel : ℕ) (after : List Bool) (job : RunningJob) (on : IsDeletionJob parts channel p.pages after job) where
-    abbrev begin_laid : LaidReplacement
-    begin_laid = begins d p running clean runs no_job command x it parts are channel after job on
+      (channel : ℕ) (after : List Bool) (job : RunningJob) (on : IsRunningDeletion parts channel p.pages after job)
+    where
+      abbrev begin_laid : LaidReplacement
+      begin_laid = begins d p running clean runs no_job command x it parts are channel after job on
 
-    abbrev commit_laid : LaidReplacement
-    commit_laid = commits d p running clean runs no_job command x it parts are channel after job on
+      abbrev commit_laid : LaidReplacement
+      commit_laid = commits d p running clean runs no_job command x it parts are channel after job on
 
-    abbrev finish_laid : LaidReplacement
-    finish_laid = finishes d p running clean runs no_job command x it parts are channel after job on
+      abbrev finish_laid : LaidReplacement
+      finish_laid = finishes d p running clean runs no_job command x it parts are channel after job on
 
-    abbrev list : List LaidReplacement
-    list = begin_laid ∷ commit_laid ∷ finish_laid ∷ []
+      abbrev list : List LaidReplacement
+      list = begin_laid ∷ commit_laid ∷ finish_laid ∷ []
 
-    list_as : to_come job ≡ list
-    list_as = list_is d p running clean runs no_job command x it parts are channel after job on
+      list_as : to_come job ≡ list
+      list_as = list_is d p running clean runs no_job command x it parts are channel after job on
 
-    none_claimed : on.laid.first.effects.claimed ≡ []
-    none_claimed = ap (λ (q : Planned). q.effects.claimed)
-        (first_as d p running clean runs no_job command x it parts are channel after job on)
+      none_claimed : on.laid.first.effects.claimed ≡ []
+      none_claimed = ap (λ (q : Planned). q.effects.claimed)
+          (first_as d p running clean runs no_job command x it parts are channel after job on)
 
-    -- the job, as the model has it
-    abbrev as_seen : JobState
-    as_seen =
-        record { serves = ForCommand channel; freeze = None; claimed = []; written = []; todo = phases_in list }
+      -- the job, as the model has it
+      abbrev as_seen : JobState
+      as_seen =
+          record { serves = ForCommand channel; freeze = None; claimed = []; written = []; todo = phases_in list }
 
-    seen_is : as_seen ≡ job_seen job
-    seen_is = sym (on.laid.seen ∙ (λ i. record {
-      serves = ForCommand channel;
-      freeze = None;
-      claimed = none_claimed i;
-      written = [];
-      todo = phases_in (list_as i);
-    }))
+      seen_is : as_seen ≡ job_seen job
+      seen_is = sym (on.laid.seen ∙ (λ i. record {
+        serves = ForCommand channel;
+        freeze = None;
+        claimed = none_claimed i;
+        written = [];
+        todo = phases_in (list_as i);
+      }))
 
-    -- it begins,
-    pub begins_deletion : (posted : IsPostedAt p channel) → posted.waits.command ≡ command
-        → p.filling ≢ Some channel → channel < length p.rows
-        → Begins s (state_of d (with_begun (record p { pages = after }) channel job))
-    begins_deletion posted same unfilled low =
-        subst (λ (j : JobState). Begins s (state_of d (record p {
-          rows = slice_set p.rows channel (record (rows_of p.rows channel) { stage = InJob });
-          job = Some (marked p.clean j);
-          pages = after;
-        }))) seen_is
-        (begins_list d p channel posted clean runs no_job (delete_job x.of it.old x.clone it.heir) commit
-        (subst (λ (k : Command). IsJobFor s k (delete_job x.of it.old x.clone it.heir) commit) (sym same) it.asked)
-        refl list (refl, (refl, (refl, tt)))
-        (are_laid d p running clean runs no_job command x it parts are channel after job on) after
-        (on.pages.set ∙ ap (λ (l : List ℕ). all_set p.pages l true) (on.laid.taken_are
-        ∙ ap (λ (l : List ℕ). on.laid.going ++ l) (sym (append-nil on.laid.taking)))) unfilled low)
+      -- it begins,
+      pub begins_deletion : (posted : IsPostedAt p channel) → posted.waits.command ≡ command
+          → p.filling ≢ Some channel → channel < length p.rows
+          → Begins s (state_of d (with_begun (record p { pages = after }) channel job))
+      begins_deletion posted same unfilled low =
+          subst (λ (j : JobState). Begins s (state_of d (record p {
+            rows = slice_set p.rows channel (record (rows_of p.rows channel) { stage = InJob });
+            job = Some (marked p.clean j);
+            pages = after;
+          }))) seen_is
+          (begins_list d p channel posted clean runs no_job (delete_job x.of it.old x.clone it.heir) commit
+          (subst (λ (k : Command). IsJobFor s k (delete_job x.of it.old x.clone it.heir) commit) (sym same) it.asked)
+          refl list (refl, (refl, (refl, tt)))
+          (are_laid d p running clean runs no_job command x it parts are channel after job on) after
+          (on.pages.set ∙ ap (λ (l : List ℕ). all_set p.pages l true) (on.laid.taken_are
+          ∙ ap (λ (l : List ℕ). on.laid.going ++ l) (sym (append-nil on.laid.taking)))) unfilled low)
 
-    -- and all can be kept in memory
-    pub keeps_deletion : AreResolved p.metas p.marked → CanAllBeKept (blobs_in p) (to_come job)
-    keeps_deletion resolves =
-        let has : HasDeletePlaces (blobs_in p) x.of x.clone are.effects.mark_room = record {
-          mark = are.effects.mark;
-          chained = ap is_some are.behind;
-          chained_too = ap is_some are.behind_clone;
-          numbered = well.generations.each x.clone ∙ ap is_some it.there_too;
-          left = are.left;
-        } in
-        subst (CanAllBeKept (blobs_in p)) (sym list_as)
-        (delete_all_kept (fixed_of s.super) (blobs_in p) x.of x.clone it.old it.heir resolves
-        (rest s running clean runs command x it) it.there it.there_too it.one
-        (unlocked s running clean runs command x it) are.effects.mark_room has (x.of ∷ on.laid.going)
-        (x.clone ∷ on.laid.taking)
-        _ _ parts.besides.freed parts.old parts.old_of_clone on.laid.going)
+      -- and all can be kept in memory
+      pub keeps_deletion : AreResolved p.metas p.marked → CanAllBeKept (blobs_in p) (to_come job)
+      keeps_deletion resolves =
+          let has : HasDeletePlaces (blobs_in p) x.of x.clone are.effects.mark_room = record {
+            mark = are.effects.mark;
+            chained = ap is_some are.behind;
+            chained_too = ap is_some are.behind_clone;
+            numbered = well.generations.each x.clone ∙ ap is_some it.there_too;
+            left = are.left;
+          } in
+          subst (CanAllBeKept (blobs_in p)) (sym list_as)
+          (delete_all_kept (fixed_of s.super) (blobs_in p) x.of x.clone it.old it.heir resolves
+          (rest s running clean runs command x it) it.there it.there_too it.one
+          (unlocked s running clean runs command x it) are.effects.mark_room has (x.of ∷ on.laid.going)
+          (x.clone ∷ on.laid.taking)
+          _ _ parts.besides.freed parts.old parts.old_of_clone on.laid.going)
 
 -- ---- the command is logged instead
 

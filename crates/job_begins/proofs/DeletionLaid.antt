@@ -5,7 +5,7 @@ use Rattle.bit_array.specs.Bits.{is_in}
 use Rattle.page_disk.specs.declared.disk.PageDisk.{Ghosts}
 use Rattle.super_block.specs.Placed.{IsPlaced}
 use Rattle.volume_model.specs.declared.command.Command.{Command}
-use Rattle.blob_meta.specs.Faults.{clusters_of}
+use Rattle.blob_meta.specs.Faults.{clusters_held}
 use Rattle.blob_meta.specs.Repairs.{HasNoMarks}
 use Rattle.blob_meta.specs.declared.meta.Meta.{Meta}
 use Rattle.md_chain.specs.Chain.{is_among}
@@ -29,7 +29,7 @@ use Rattle.running_store.specs.declared.replacements.Planned.{Planned}
 use Rattle.job_views.specs.Replacing.{blobs_in}
 use Rattle.job_begins.specs.Alone.{IsMissing}
 use Rattle.job_begins.specs.Begins.{no_effects}
-use Rattle.job_begins.specs.Deletions.{AreDeletionEffects, AreDeletionParts, IsDeletionJob, IsDeletionLaid}
+use Rattle.job_begins.specs.Deletions.{AreDeletionEffects, AreDeletionParts, IsRunningDeletion, IsDeletionLaid}
 use Rattle.job_begins.specs.Drafts.{IsDraftOf, IsPlannedOn}
 use Rattle.job_begins.specs.ListJobs.{delete_begins, delete_commit, delete_commits, delete_finishes, effects_in}
 use Rattle.job_begins.specs.declared.asking.DeletionAsk.{DeletionAsk}
@@ -46,7 +46,7 @@ module _ {D : Type 0} (d : Ghosts D) (p : StoreView D) (running : IsRunning (sta
     (clean : HasNoMarks (base_of p.metas p.marked)) (runs : p.stopped ≡ None) (no_job : p.job ≡ None)
     (command : Command) (x : DeletionAsk) (it : IsDeletion (state_of d p) command x) (parts : DeletionParts)
     (are : AreDeletionParts p.super.md_len (blobs_in p) (length p.clusters) x parts) (channel : ℕ)
-    (after : List Bool) (job : RunningJob) (on : IsDeletionJob parts channel p.pages after job) where
+    (after : List Bool) (job : RunningJob) (on : IsRunningDeletion parts channel p.pages after job) where
   abbrev s : StoreState
   s = state_of d p
 
@@ -196,17 +196,17 @@ module _ {D : Type 0} (d : Ghosts D) (p : StoreView D) (running : IsRunning (sta
   clone_low : x.clone < s.super.md_len
   clone_low = well.chains.low x.clone x.clone (x.clone ∷ old_of_clone) chain_too (among_first x.clone old_of_clone)
 
-  below : AllBelow (length does.beside) (clusters_of taking.map)
-  below = subst (λ (m : Meta). AllBelow (length does.beside) (clusters_of m.map)) it.taking_is
-      (subst (λ n. AllBelow n (clusters_of x.taking.map)) (sym does.count)
+  below : AllBelow (length does.beside) (clusters_held taking.map)
+  below = subst (λ (m : Meta). AllBelow (length does.beside) (clusters_held m.map)) it.taking_is
+      (subst (λ n. AllBelow n (clusters_held x.taking.map)) (sym does.count)
       (taking_low s running clean runs command x it))
 
   freed_are : (c : ℕ) → (is_among c effects.freed ≡ true)
-      ↔ IsMissing (all_set does.beside (clusters_of taking.map) true) it.old.map c
+      ↔ IsMissing (all_set does.beside (clusters_held taking.map) true) it.old.map c
   freed_are c = subst (λ (m : Meta). (is_among c effects.freed ≡ true)
-      ↔ IsMissing (all_set does.beside (clusters_of taking.map) true) m.map c) it.going_is
+      ↔ IsMissing (all_set does.beside (clusters_held taking.map) true) m.map c) it.going_is
       (subst (λ (m : Meta). (is_among c effects.freed ≡ true)
-      ↔ IsMissing (all_set does.beside (clusters_of m.map) true) x.going.map c) it.taking_is (does.freed c))
+      ↔ IsMissing (all_set does.beside (clusters_held m.map) true) x.going.map c) it.taking_is (does.freed c))
 
   pub are_laid : AreLaid p.super s.base s.chains p.pages [] (delete_job x.of it.old x.clone it.heir).list
       (replacings (begins ∷ commits ∷ finishes ∷ []))

@@ -12,7 +12,7 @@ use Rattle.volume_model.specs.declared.command.VolumeRef.{VolumeRef}
 use Rattle.blob_meta.specs.declared.meta.Meta.{Meta}
 use Rattle.blob_meta.specs.declared.job.Job.{Job}
 use Rattle.blob_meta.specs.Jobs.{create_job, job_of_one, new_meta, resize_job, resized_meta}
-use Rattle.blob_meta.specs.Faults.{clusters_of}
+use Rattle.blob_meta.specs.Faults.{clusters_held}
 use Rattle.blob_meta.specs.Parents.{slot}
 use Rattle.blob_meta.specs.Repairs.{HasNoMarks}
 use Rattle.blob_meta.specs.Resolving.{mark_of}
@@ -121,9 +121,10 @@ module _ (p : StoreState) (running : IsRunning p) (clean : HasNoMarks p.base) (r
         xattrs = xattrs;
         internal = internal;
         unmarked = unmarked;
-        once = subst (λ n. AreDistinct (clusters_of (drop n old.map))) (sym long)
+        once = subst (λ n. AreDistinct (clusters_held (drop n old.map))) (sym long)
             (cut_once p.super p.base head old new slots there lawful was map_is);
-        moves = subst (λ n. MovesClusters p.super p.base (with_entry p.base head new) (clusters_of (drop n old.map)) [])
+        moves = subst
+            (λ n. MovesClusters p.super p.base (with_entry p.base head new) (clusters_held (drop n old.map)) [])
             (sym long) (cut_moves p.super p.base head old new slots there lawful was map_is);
       }
 

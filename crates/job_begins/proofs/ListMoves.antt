@@ -7,7 +7,7 @@ use Rattle.bit_array.specs.Bits.{is_in}
 use Rattle.super_block.specs.declared.page.Super.{Super}
 use Rattle.volume_model.specs.Xattrs.{Xattrs}
 use Rattle.blob_meta.specs.declared.meta.Meta.{Meta}
-use Rattle.blob_meta.specs.Faults.{clusters_of}
+use Rattle.blob_meta.specs.Faults.{clusters_held}
 use Rattle.blob_meta.specs.Parents.{slot}
 use Rattle.blob_meta.specs.Resolving.{without_marks}
 use Rattle.md_chain.specs.Chain.{is_among}
@@ -163,10 +163,10 @@ module _ (s : Super) (base : Metas) (of clone : ℕ) (old heir : Meta) (there : 
 
   module _ (low : clone < s.md_len) (bits : List Bool)
       (bits_are : (c : ℕ) → (is_in bits c ≡ true) ↔ IsMappedBeside s.md_len base of c)
-      (below : AllBelow (length bits) (clusters_of taking.map)) where
+      (below : AllBelow (length bits) (clusters_held taking.map)) where
     -- those of the clone are added to what other blobs had
     abbrev pub both : List Bool
-    both = all_set bits (clusters_of taking.map) true
+    both = all_set bits (clusters_held taking.map) true
 
     had : (c : ℕ) → IsMappedBeside s.md_len base of c → IsMappedBeside s.md_len taken of c
     had c x = elim (cases_eq x.other clone) [
@@ -194,12 +194,12 @@ module _ (s : Super) (base : Metas) (of clone : ℕ) (old heir : Meta) (there : 
     ]
 
     back : (c : ℕ) → IsMappedBeside s.md_len taken of c
-        → IsMappedBeside s.md_len base of c ⊎ (is_among c (clusters_of taking.map) ≡ true)
+        → IsMappedBeside s.md_len base of c ⊎ (is_among c (clusters_held taking.map) ≡ true)
     back c x = elim (cases_eq x.other clone) [
       | inl e ↦
           let one : x.meta ≡ taking =
           let same = sym x.there ∙ given_here marked clone taking x.other e in cc same in
-          inr (subst (λ (m : Meta). is_among c (clusters_of m.map) ≡ true) one x.among)
+          inr (subst (λ (m : Meta). is_among c (clusters_held m.map) ≡ true) one x.among)
       | inr ne ↦ inl (record {
         other = x.other;
         low = x.low;
@@ -214,7 +214,7 @@ module _ (s : Super) (base : Metas) (of clone : ℕ) (old heir : Meta) (there : 
     -- so these are the clusters that other blobs have behind the commit
     pub both_are : (c : ℕ) → (is_in both c ≡ true) ↔ IsMappedBeside s.md_len taken of c
     both_are c = (
-      λ set. elim ((set_with bits (clusters_of taking.map) below c).0 set) [
+      λ set. elim ((set_with bits (clusters_held taking.map) below c).0 set) [
         | inl was ↦ had c ((bits_are c).0 was)
         | inr among ↦ record {
           other = clone;
@@ -225,7 +225,7 @@ module _ (s : Super) (base : Metas) (of clone : ℕ) (old heir : Meta) (there : 
           among = among;
         }
       ],
-      λ x. (set_with bits (clusters_of taking.map) below c).1 (elim (back c x) [
+      λ x. (set_with bits (clusters_held taking.map) below c).1 (elim (back c x) [
         | inl was ↦ inl ((bits_are c).1 was)
         | inr among ↦ inr among
       ]),

@@ -19,7 +19,7 @@ use Rattle.store_model.proofs.Sets.{all_set_out, were_clear}
 use Rattle.running_store.specs.Jobs.{replacing_of, IsMatched}
 use Rattle.running_store.specs.declared.effects.Effects.{Effects}
 use Rattle.running_store.specs.declared.replacements.Planned.{Planned}
-use Rattle.job_begins.specs.Begins.{taken_for, IsLaid, IsTaken}
+use Rattle.job_begins.specs.Begins.{taken_for, IsChainLaid, IsTaken}
 use Rattle.job_begins.specs.Drafts.{IsDraftOf, IsPlannedOn}
 use Rattle.job_begins.specs.declared.drafts.Draft.{Draft}
 use Rattle.job_begins.specs.declared.preparing.Laid.{Laid}
@@ -32,7 +32,7 @@ pub record IsWritten (head : ℕ) (new : Meta) (fresh : List ℕ) (pages : List 
   pub are : IsItemsOf new items
   pub plannable : ArePlannable items
   pub count : length fresh + 1 ≡ length (parts_of items)
-  pub laid : IsLaid items head fresh (record { chain = head ∷ fresh; pages = pages })
+  pub laid : IsChainLaid items head fresh (record { chain = head ∷ fresh; pages = pages })
 
 -- What a draft is planned as has its head first, and frees each cluster once.
 pub planned_matched : (x : Draft) (fresh : List ℕ) (effects : Effects) (planned : Planned)
@@ -98,8 +98,8 @@ module _ (head : ℕ) (new : Meta) (x : Draft) (is : IsDraftOf head new x) (fres
     are = subst (λ (m : Meta). IsItemsOf m x.items) is.new_is is.draft.are;
     plannable = is.draft.plannable;
     count = count;
-    laid = subst (IsLaid x.items head fresh) (λ i. record { chain = chain_is i; pages = on.laid.pages })
-        (subst (λ (h : ℕ). IsLaid x.items h fresh on.laid) is.head_is on.laid_on);
+    laid = subst (IsChainLaid x.items head fresh) (λ i. record { chain = chain_is i; pages = on.laid.pages })
+        (subst (λ (h : ℕ). IsChainLaid x.items h fresh on.laid) is.head_is on.laid_on);
   }
 
   -- and is planned for the pages of which these are in use, where its places are the least clear ones.

@@ -6,7 +6,7 @@ use Rattle.std.specs.Prelude.{slice_set}
 use Rattle.std.proofs.lemmas.Bool.{both_ways, cases_Bool, cases_eq}
 use Rattle.std.proofs.lemmas.List.{get_or-set_other, get_or-set_same, length-set}
 use Rattle.bit_array.specs.Bits.{is_in}
-use Rattle.blob_meta.specs.Faults.{clusters_of}
+use Rattle.blob_meta.specs.Faults.{clusters_held}
 use Rattle.md_chain.specs.Chain.{is_among}
 use Rattle.store_model.specs.Places.{AreDistinct}
 use Rattle.store_model.proofs.Sets.{among_either, among_first, among_later, not_first}
@@ -57,8 +57,8 @@ distinct_push (p ∷ places) k distinct out =
 -- ---- one slot more
 
 next_suc : (slots : List (Option ℕ)) (i : ℕ) (d : Option ℕ) (c : ℕ) → i < length slots
-    → (is_among c (clusters_of (take (suc i) slots)) ≡ true)
-    ↔ ((is_among c (clusters_of (take i slots)) ≡ true) ⊎ (get_or slots i d ≡ Some c))
+    → (is_among c (clusters_held (take (suc i) slots)) ≡ true)
+    ↔ ((is_among c (clusters_held (take i slots)) ≡ true) ⊎ (get_or slots i d ≡ Some c))
 next_suc [] i d c low = absurd (omega (arith, low))
 next_suc (None ∷ slots) zero d c low =
     (λ bad. absurd (cc bad), λ o. elim o [ inl bad ↦ absurd (cc bad) | inr bad ↦ absurd (cc bad) ])
@@ -72,8 +72,8 @@ next_suc (Some y ∷ slots) zero d c low = (
 next_suc (None ∷ slots) (suc i) d c low = next_suc slots i d c (omega (arith, low))
 next_suc (Some y ∷ slots) (suc i) d c low =
     let rest = next_suc slots i d c (omega (arith, low)) in
-    let before = clusters_of (take i slots) in
-    let after = clusters_of (take (suc i) slots) in (
+    let before = clusters_held (take i slots) in
+    let after = clusters_held (take (suc i) slots) in (
       λ among. elim (among_either c y after among) [
         | inl e ↦ inl (subst (λ x. is_among x (y ∷ before) ≡ true) (sym e) (among_first y before))
         | inr later ↦ elim (rest.0 later) [ inl was ↦ inl (among_later c y before was) | inr is ↦ inr is ]
@@ -98,10 +98,10 @@ pub record Finds (old : List Bool) (slots : List (Option ℕ)) (i : ℕ) (now : 
 
 module _ (old : List Bool) (slots : List (Option ℕ)) (i : ℕ) (d : Option ℕ) (now : List Bool) (places : List ℕ)
     (low : i < length slots) (f : Finds old slots i now places) where
-  next : (c : ℕ) → (is_among c (clusters_of (take (i + 1) slots)) ≡ true)
-      ↔ ((is_among c (clusters_of (take i slots)) ≡ true) ⊎ (get_or slots i d ≡ Some c))
-  next c = subst (λ n. (is_among c (clusters_of (take n slots)) ≡ true)
-      ↔ ((is_among c (clusters_of (take i slots)) ≡ true) ⊎ (get_or slots i d ≡ Some c))) (sym (add-one i))
+  next : (c : ℕ) → (is_among c (clusters_held (take (i + 1) slots)) ≡ true)
+      ↔ ((is_among c (clusters_held (take i slots)) ≡ true) ⊎ (get_or slots i d ≡ Some c))
+  next c = subst (λ n. (is_among c (clusters_held (take n slots)) ≡ true)
+      ↔ ((is_among c (clusters_held (take i slots)) ≡ true) ⊎ (get_or slots i d ≡ Some c))) (sym (add-one i))
       (next_suc slots i d c low)
 
   -- a slot whose cluster isn't missing, or an empty one, leaves the places as they are

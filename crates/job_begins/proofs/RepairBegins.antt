@@ -11,7 +11,7 @@ use Rattle.bit_array.specs.Bits.{is_in}
 use Rattle.page_disk.specs.declared.disk.PageDisk.{Ghosts}
 use Rattle.super_block.specs.declared.page.Super.{Super}
 use Rattle.blob_meta.specs.declared.meta.Meta.{Meta}
-use Rattle.blob_meta.specs.Faults.{clusters_of}
+use Rattle.blob_meta.specs.Faults.{clusters_held}
 use Rattle.blob_meta.specs.Repairs.{after, HasHeadsBelow}
 use Rattle.blob_meta.specs.Resolving.{mark_of, resolved}
 use Rattle.blob_meta.proofs.RepairsInTurn.{repaired_resolves}
@@ -93,7 +93,7 @@ module _ {D : Type 0} (d : Ghosts D) (p : StoreView D) (running : IsRunning (sta
 
   -- and so are those of one of them
   pub room_for : (head : ℕ) (m : Meta) → s.base head ≡ Some m → (count : ℕ) → count ≡ length p.clusters → (k : ℕ)
-      → is_among k (clusters_of m.map) ≡ true → k < count
+      → is_among k (clusters_held m.map) ≡ true → k < count
   room_for head m there count count_is k among = subst (λ n. k < n) (sym count_is) (room head m k there among)
 
   module _ (no_job : p.job ≡ None) (head : ℕ) (due : IsDue s.super.md_len s.base head) where

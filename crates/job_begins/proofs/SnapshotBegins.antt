@@ -30,7 +30,7 @@ use Rattle.running_store.specs.declared.replacements.LaidReplacement.{LaidReplac
 use Rattle.running_store.specs.declared.replacements.Planned.{Planned}
 use Rattle.job_views.specs.Replacing.{blobs_in}
 use Rattle.job_begins.specs.ListPlaces.{HasSnapshotPlaces}
-use Rattle.job_begins.specs.Snapshots.{AreSnapshotParts, AsksToSnapshot, IsSnapshotJob}
+use Rattle.job_begins.specs.Snapshots.{AreSnapshotParts, AsksToSnapshot, IsRunningSnapshot}
 use Rattle.job_begins.specs.declared.asking.SnapshotAsk.{SnapshotAsk}
 use Rattle.job_begins.specs.declared.snapshot_parts.SnapshotParts.{SnapshotParts}
 use Rattle.job_begins.proofs.ListBegun.{begins_list}
@@ -67,7 +67,7 @@ module _ {D : Type 0} (d : Ghosts D) (p : StoreView D) (channel : ℕ) (posted :
       known.commit (subst (λ (j : Job). IsJobFor s posted.waits.command j asks.commit) known.job asks.asked)
 
   module _ (parts : SnapshotParts) (are : AreSnapshotParts (blobs_in p) x parts) (after : List Bool) (job : RunningJob)
-      (on : IsSnapshotJob parts channel p.pages after job) where
+      (on : IsRunningSnapshot parts channel p.pages after job) where
     abbrev k : SnapshotTaken D
     k = record {
       d = d;

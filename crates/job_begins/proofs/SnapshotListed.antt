@@ -23,7 +23,7 @@ use Rattle.job_views.specs.Replacing.{blobs_in}
 use Rattle.job_begins.specs.Begins.{no_effects}
 use Rattle.job_begins.specs.Drafts.{IsDraftOf}
 use Rattle.job_begins.specs.ListJobs.{effects_in, snapshot_commit}
-use Rattle.job_begins.specs.Snapshots.{AreSnapshotEffects, AreSnapshotParts, AsksToSnapshot, IsSnapshotJob}
+use Rattle.job_begins.specs.Snapshots.{AreSnapshotEffects, AreSnapshotParts, AsksToSnapshot, IsRunningSnapshot}
 use Rattle.job_begins.specs.Snapshots.{IsSnapshotLaid}
 use Rattle.job_begins.specs.declared.asking.SnapshotAsk.{SnapshotAsk}
 use Rattle.job_begins.specs.declared.snapshot_parts.SnapshotDrafts.{SnapshotDrafts}
@@ -55,7 +55,7 @@ pub record SnapshotTaken (D : Type 0) : Type 1 where
   pub are : AreSnapshotParts (blobs_in p) x parts
   pub after : List Bool
   pub job : RunningJob
-  pub on : IsSnapshotJob parts channel p.pages after job
+  pub on : IsRunningSnapshot parts channel p.pages after job
 
 module _ {D : Type 0} (k : SnapshotTaken D) where
   open k use {d, p, channel, posted, running, clean, runs, no_job, x, asks_it, parts, are, job, on}

@@ -43,7 +43,7 @@ abbrev pub HasChain : map.FinMap nat_cmp (List ℕ) → ℕ → Type 0
 HasChain chains head = (behind : List ℕ) × (map.get chains head ≡ Some (head ∷ behind))
 
 -- The pages are those of the items at the head and the fresh places, and where they are read there they are a chain.
-pub record IsLaid (items : List Item) (head : ℕ) (fresh : List ℕ) (laid : Laid) : Type 0 where
+pub record IsChainLaid (items : List Item) (head : ℕ) (fresh : List ℕ) (laid : Laid) : Type 0 where
   pub chain : laid.chain ≡ head ∷ fresh
   pub pages : laid.pages ≡ chain_pages items head fresh
   pub reads : (look : Look) (md_len : ℕ) → md_len < 2 ^ 32 → IsDistinct nat_eq (head ∷ fresh)
@@ -69,7 +69,7 @@ IsFreshHead pages head = IsLeastClear pages head ⊎ IsFull pages
 -- These places are the least clear ones, as many as the items need, and are in use from now on.
 pub record IsTaken (items : List Item) (head : ℕ) (makes : Bool) (old new : List Bool) (laid : Laid) : Type 0 where
   pub fresh : List ℕ
-  pub laid_on : IsLaid items head fresh laid
+  pub laid_on : IsChainLaid items head fresh laid
   pub count : length fresh + 1 ≡ length (parts_of items)
   pub least : AreLeastClear old (taken_for makes head fresh)
   pub taken : new ≡ all_set old (taken_for makes head fresh) true

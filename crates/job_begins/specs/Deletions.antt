@@ -5,7 +5,7 @@ use Rattle.std.specs.Prelude.{length}
 use Rattle.std.specs.FinMap as map
 use Rattle.bit_array.specs.Bits.{is_in}
 use Rattle.volume_model.specs.declared.command.Command.{Command}
-use Rattle.blob_meta.specs.Faults.{clusters_of}
+use Rattle.blob_meta.specs.Faults.{clusters_held}
 use Rattle.blob_meta.specs.declared.job.Job.{Job}
 use Rattle.blob_meta.specs.declared.job.Replacement.{Replacement}
 use Rattle.md_chain.specs.Chain.{is_among}
@@ -77,7 +77,7 @@ pub record AreDeletionEffects (md_len : ℕ) (b : Blobs) (clusters : ℕ) (ask :
   pub beside_are : (c : ℕ) → (is_in beside c ≡ true) ↔ IsMappedBeside md_len (base_of b.metas b.marked) ask.of c
   pub once : AreDistinct x.freed
   pub freed : (c : ℕ)
-      → (is_among c x.freed ≡ true) ↔ IsMissing (all_set beside (clusters_of ask.taking.map) true) ask.going.map c
+      → (is_among c x.freed ≡ true) ↔ IsMissing (all_set beside (clusters_held ask.taking.map) true) ask.going.map c
 
 -- The job on these places: each of the two is laid on its head and on those that are its own, in their order, and then
 -- the blob is erased, with the places that the first one gave it. The old ones stood behind the heads of the blob and
@@ -130,7 +130,7 @@ pub record AreDeletionParts (md_len : ℕ) (b : Blobs) (clusters : ℕ) (ask : D
   pub drafts : AreDeletionDrafts ask x.drafts
 
 -- the job, with the pages that it needs taken for it
-pub record IsDeletionJob (x : DeletionParts) (channel : ℕ) (old new : List Bool) (job : RunningJob) : Type 0 where
+pub record IsRunningDeletion (x : DeletionParts) (channel : ℕ) (old new : List Bool) (job : RunningJob) : Type 0 where
   pub taken : List ℕ
   pub pages : ArePagesTaken (deletion_needs x.drafts) old new taken
   pub laid : IsDeletionLaid x.drafts x.besides channel taken x.old x.old_of_clone job

@@ -5,7 +5,7 @@ use Rattle.blob_meta.specs.Items.{IsItemsOf}
 use Rattle.md_chain.specs.Packing.{ArePlannable, AreFew}
 use Rattle.running_store.specs.declared.effects.Effects.{Effects}
 use Rattle.running_store.specs.declared.replacements.Planned.{Planned}
-use Rattle.job_begins.specs.Begins.{IsLaid}
+use Rattle.job_begins.specs.Begins.{IsChainLaid}
 use Rattle.job_begins.specs.declared.drafts.Draft.{Draft}
 use Rattle.job_begins.specs.declared.drafts.LaidDraft.{LaidDraft}
 use Rattle.job_begins.specs.declared.preparing.Laid.{Laid}
@@ -25,7 +25,7 @@ pub record IsDraftOf (head : ℕ) (new : Meta) (x : Draft) : Type 0 where
 -- It is laid on its head and on these places, of which there are as many as it needs, and this is done besides.
 pub record IsPlannedOn (x : Draft) (fresh : List ℕ) (effects : Effects) (planned : Planned) : Type 0 where
   pub laid : Laid
-  pub laid_on : IsLaid x.items x.head fresh laid
+  pub laid_on : IsChainLaid x.items x.head fresh laid
   pub planned_is : planned ≡ record {
     head = x.head;
     new = x.new;

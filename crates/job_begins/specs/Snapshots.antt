@@ -124,7 +124,7 @@ pub record AreSnapshotParts (b : Blobs) (ask : SnapshotAsk) (x : SnapshotParts) 
   pub drafts : AreSnapshotDrafts ask x.drafts
 
 -- the job, with the pages that it needs taken for it
-pub record IsSnapshotJob (x : SnapshotParts) (channel : ℕ) (old new : List Bool) (job : RunningJob) : Type 0 where
+pub record IsRunningSnapshot (x : SnapshotParts) (channel : ℕ) (old new : List Bool) (job : RunningJob) : Type 0 where
   pub taken : List ℕ
   pub pages : ArePagesTaken (snapshot_needs x.drafts) old new taken
   pub laid : IsSnapshotLaid x.drafts x.besides channel taken x.old job

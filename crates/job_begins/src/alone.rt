@@ -3,7 +3,7 @@
 ghost use Rattle.std.specs.Prelude.{◌≡◌, ◌↔◌, ◌<◌, ℕ, true, length, option_copied, IfOk};
 ghost use Rattle.bit_array.specs.Bits.{is_in};
 ghost use Rattle.blob_meta.specs.declared.meta.Meta.{Meta as AMeta};
-ghost use Rattle.blob_meta.specs.Faults.{clusters_of};
+ghost use Rattle.blob_meta.specs.Faults.{clusters_held};
 ghost use Rattle.md_chain.specs.Chain.{is_among};
 ghost use Rattle.job_begins.specs.Alone.{HaveRoom, IsMappedBeside, IsMissing};
 ghost use Rattle.running_store.specs.StoreView.{base_of};
@@ -29,8 +29,8 @@ pub(crate) fn base_at<D>(running: &Running<D>, head: u32) -> Option<&Meta>
 
 /// Adds the clusters of a map to a set.
 pub fn add_clusters(clusters: &mut Bits, map: &SlotMap)
-    requires { (c : ℕ) → is_among c (clusters_of map.now) ≡ true → c < length clusters.old }
-    ensures { clusters.new ≡ all_set clusters.old (clusters_of map.now) true }
+    requires { (c : ℕ) → is_among c (clusters_held map.now) ≡ true → c < length clusters.old }
+    ensures { clusters.new ≡ all_set clusters.old (clusters_held map.now) true }
 {
     for slot in map.as_slice() {
         if let Some(cluster) = slot {
@@ -44,7 +44,7 @@ fn add_at<D>(clusters: &mut Bits, running: &Running<D>, head: u32)
     requires { HaveRoom (base_of running.now.metas running.now.marked) (length clusters.old) }
     ensures count { length clusters.new ≡ length clusters.old }
     ensures there { (m : AMeta) → base_of running.now.metas running.now.marked head ≡ Some m
-        → clusters.new ≡ all_set clusters.old (clusters_of m.map) true }
+        → clusters.new ≡ all_set clusters.old (clusters_held m.map) true }
     ensures none { base_of running.now.metas running.now.marked head ≡ None → clusters.new ≡ clusters.old }
 {
     if let Some(meta) = base_at(running, head) {
@@ -74,7 +74,7 @@ pub(crate) fn missing(
     clusters: &mut Bits,
     map: &SlotMap,
 ) -> Result<PlaceList, Memory>
-    requires { (c : ℕ) → is_among c (clusters_of map.now) ≡ true → c < length clusters.old }
+    requires { (c : ℕ) → is_among c (clusters_held map.now) ≡ true → c < length clusters.old }
     ensures once { IfOk result AreDistinct }
     ensures are { IfOk result (λ places. (c : ℕ) → (is_among c places ≡ true) ↔ IsMissing clusters.old map.now c) }
 {

@@ -4,7 +4,7 @@
 ghost use Rattle.std.specs.Prelude.{◌≡◌, ◌≢◌, ◌<◌, ◌-◌, ◌^◌, ℕ, [], true, false, All, length, None, Some, IfErr, IfOk};
 ghost use Rattle.std.specs.Prelude.{OnErr};
 ghost use Rattle.super_block.specs.Faults.{IsFaultless};
-ghost use Rattle.blob_meta.specs.Faults.{clusters_of};
+ghost use Rattle.blob_meta.specs.Faults.{clusters_held};
 ghost use Rattle.blob_meta.specs.Repairs.{HasNoMarks};
 ghost use Rattle.job_begins.specs.Alone.{HaveRoom};
 ghost use Rattle.job_begins.specs.Begins.{with_begun, HasChain};
@@ -33,9 +33,9 @@ use volume_model::{PlaceList, Reply};
 /// (Want of memory too if no generation is left.)
 fn effects_of<D>(running: &Running<D>, ask: &DeletionAsk) -> Result<DeletionEffects, Memory>
     requires room { HaveRoom (base_of running.now.metas running.now.marked) (length running.now.clusters.bits) }
-    requires taking { (c : ℕ) → is_among c (clusters_of ask.now.taking.map) ≡ true
+    requires taking { (c : ℕ) → is_among c (clusters_held ask.now.taking.map) ≡ true
         → c < length running.now.clusters.bits }
-    requires going { (c : ℕ) → is_among c (clusters_of ask.now.going.map) ≡ true
+    requires going { (c : ℕ) → is_among c (clusters_held ask.now.going.map) ≡ true
         → c < length running.now.clusters.bits }
     ensures are { IfOk result (AreDeletionEffects running.now.sup.md_len (blobs_of running.now)
         (length running.now.clusters.bits) ask.now) }
@@ -93,9 +93,9 @@ fn parts_of<D>(running: &Running<D>, ask: DeletionAsk) -> Result<DeletionParts, 
     requires chain { HasChain running.now.chains ask.of }
     requires chain_of_clone { HasChain running.now.chains ask.clone }
     requires room { HaveRoom (base_of running.now.metas running.now.marked) (length running.now.clusters.bits) }
-    requires taking_low { (c : ℕ) → is_among c (clusters_of ask.taking.map) ≡ true
+    requires taking_low { (c : ℕ) → is_among c (clusters_held ask.taking.map) ≡ true
         → c < length running.now.clusters.bits }
-    requires going_low { (c : ℕ) → is_among c (clusters_of ask.going.map) ≡ true
+    requires going_low { (c : ℕ) → is_among c (clusters_held ask.going.map) ≡ true
         → c < length running.now.clusters.bits }
     requires going { All FitsPage ask.going.xattrs × All FitsPage ask.going.internal }
     requires taking { All FitsPage ask.taking.xattrs × All FitsPage ask.taking.internal }

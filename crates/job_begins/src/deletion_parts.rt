@@ -147,7 +147,7 @@ impl Drop for DeletionParts {
 
 impl DeletionParts {
     ghost use Rattle.std.specs.Prelude.{◌≡◌, [], IfErr, IfOk, OnErr, length};
-    ghost use Rattle.job_begins.specs.Deletions.{deletion_needs, IsDeletionJob, IsDeletionLaid};
+    ghost use Rattle.job_begins.specs.Deletions.{deletion_needs, IsRunningDeletion, IsDeletionLaid};
     ghost use Rattle.job_begins.specs.Drafts.{IsDraft};
     ghost use Rattle.job_begins.specs.JobPages.{IsShort};
     ghost use Rattle.running_store.specs.Jobs.{IsHeaded};
@@ -167,7 +167,7 @@ impl DeletionParts {
         requires claims { self.besides.commit.claimed ≡ [] }
         requires once { AreDistinct self.besides.freed }
         requires unclaimed { pages.old.claims ≡ [] }
-        ensures job { IfOk result (IsDeletionJob self channel pages.old.bits pages.new.bits) }
+        ensures job { IfOk result (IsRunningDeletion self channel pages.old.bits pages.new.bits) }
         ensures headed { IfOk result IsHeaded }
         ensures lack { IfErr result (IsShort (deletion_needs self.drafts) pages.old.bits) }
         ensures same { OnErr result (pages.new ≡ pages.old) }

@@ -7,7 +7,7 @@ ghost use Rattle.std.specs.List.{All};
 ghost use Rattle.pools.specs.Pool.{clear_in};
 ghost use Rattle.blob_meta.specs.Items.{IsItemsOf};
 ghost use Rattle.md_chain.specs.Packing.{parts_of, ArePlannable, AreFew, FitsPage};
-ghost use Rattle.job_begins.specs.Begins.{behind_in, HasChain, IsFreshHead, IsLaid, IsPrepared, IsTaken};
+ghost use Rattle.job_begins.specs.Begins.{behind_in, HasChain, IsFreshHead, IsChainLaid, IsPrepared, IsTaken};
 ghost use Rattle.job_begins.specs.Begins.{needed, IsUnprepared};
 
 use blob_meta::{Chains, Meta, to_items};
@@ -183,7 +183,7 @@ pub(crate) fn lay(alloc: Global, items: &ItemList, head: u32, fresh: &[u32]) -> 
     requires plannable { ArePlannable items.now }
     requires few { AreFew items.now }
     requires places { length fresh.now + 1 ≡ length (parts_of items.now) }
-    ensures { IfOk result (IsLaid items.now head fresh.now) }
+    ensures { IfOk result (IsChainLaid items.now head fresh.now) }
 {
     let mut chain = Vec::new(alloc);
     chain.push(head)?;

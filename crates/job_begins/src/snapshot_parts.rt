@@ -170,7 +170,7 @@ impl SnapshotParts {
     ghost use Rattle.std.specs.Prelude.{◌≡◌, ◌∷◌, [], List, ℕ, IfErr, IfOk, OnErr, length};
     ghost use Rattle.job_begins.specs.Begins.{IsFreshHead};
     ghost use Rattle.job_begins.specs.Drafts.{IsDraft};
-    ghost use Rattle.job_begins.specs.Snapshots.{snapshot_needs, IsSnapshotJob, IsSnapshotLaid};
+    ghost use Rattle.job_begins.specs.Snapshots.{snapshot_needs, IsRunningSnapshot, IsSnapshotLaid};
     ghost use Rattle.job_begins.specs.JobPages.{IsShort};
 
     /// The job, once its pages are taken. `Err` says what it lacks, and nothing is taken then.
@@ -186,7 +186,7 @@ impl SnapshotParts {
         requires made { IsDraft self.drafts.made }
         requires next { IsFreshHead pages.old.bits self.drafts.begun.head }
         requires unclaimed { pages.old.claims ≡ [] }
-        ensures job { IfOk result (IsSnapshotJob self channel pages.old.bits pages.new.bits) }
+        ensures job { IfOk result (IsRunningSnapshot self channel pages.old.bits pages.new.bits) }
         ensures lack { IfErr result (IsShort (snapshot_needs self.drafts) pages.old.bits) }
         ensures same { OnErr result (pages.new ≡ pages.old) }
         ensures unclaimed { pages.new.claims ≡ [] }

@@ -2,12 +2,12 @@
 use Rattle.std.proofs.Common.{◌≡◌, ◌≤◌, List, [], ◌∷◌, ◌++◌, length, arith, ap, sym, ◌∙◌, length-append, append_assoc}
 use Rattle.std.proofs.Common.{append-nil}
 use Rattle.volume_model.specs.declared.reply.Msg.{Msg}
-use Rattle.md_queue.specs.Calls.{QueueCall, Sent, Returned, Taken, FoundNone, Leads, LeadTo, sent_by, taken_by}
+use Rattle.md_queue.specs.Calls.{QueueCall, Sent, Returned, Taken, FoundNone, Leads, LeadTo, sent_by, messages_taken}
 use Rattle.md_queue.specs.Queue.{capacity}
 
 -- what was held and then what was sent is what was taken and then what is held
 pub in_order : (before after : List Msg) (calls : List QueueCall)
-    → LeadTo before calls after → before ++ sent_by calls ≡ taken_by calls ++ after
+    → LeadTo before calls after → before ++ sent_by calls ≡ messages_taken calls ++ after
 in_order before after [] h = append-nil before ∙ sym h
 in_order before after (Sent msg ∷ calls) h =
     sym (append_assoc before (msg ∷ []) (sent_by calls)) ∙ ap (λ queue. queue ++ sent_by calls) (sym h.1.behind)

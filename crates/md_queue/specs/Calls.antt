@@ -1,7 +1,7 @@
 -- Calls of a queue one after another, each with its answer.
 use Rattle.std.specs.Prelude.{◌≡◌, List, [], ◌∷◌}
 use Rattle.volume_model.specs.declared.reply.Msg.{Msg}
-use Rattle.md_queue.specs.Queue.{IsFull, IsEmpty, Appends, GivesOldest}
+use Rattle.md_queue.specs.Queue.{HasNoRoom, IsEmpty, Appends, GivesOldest}
 
 -- a call with its answer: a message was sent or handed back, a message was taken or there was none
 pub data QueueCall : Type 0 where
@@ -13,7 +13,7 @@ pub data QueueCall : Type 0 where
 -- what one call makes of the queue
 abbrev pub Leads : List Msg → QueueCall → List Msg → Type 0
 Leads before (Sent msg) after = Appends before msg after
-Leads before (Returned msg) after = IsFull before × (after ≡ before)
+Leads before (Returned msg) after = HasNoRoom before × (after ≡ before)
 Leads before (Taken msg) after = GivesOldest before msg after
 Leads before FoundNone after = IsEmpty before × (after ≡ before)
 
@@ -31,9 +31,9 @@ sent_by (Taken msg ∷ calls) = sent_by calls
 sent_by (FoundNone ∷ calls) = sent_by calls
 
 -- the messages that were taken, in order
-abbrev pub taken_by : List QueueCall → List Msg
-taken_by [] = []
-taken_by (Sent msg ∷ calls) = taken_by calls
-taken_by (Returned msg ∷ calls) = taken_by calls
-taken_by (Taken msg ∷ calls) = msg ∷ taken_by calls
-taken_by (FoundNone ∷ calls) = taken_by calls
+abbrev pub messages_taken : List QueueCall → List Msg
+messages_taken [] = []
+messages_taken (Sent msg ∷ calls) = messages_taken calls
+messages_taken (Returned msg ∷ calls) = messages_taken calls
+messages_taken (Taken msg ∷ calls) = msg ∷ messages_taken calls
+messages_taken (FoundNone ∷ calls) = messages_taken calls

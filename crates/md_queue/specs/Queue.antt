@@ -7,8 +7,8 @@ abbrev pub capacity : ℕ
 capacity = 8
 
 -- there is room for no message more
-abbrev pub IsFull : List Msg → Type 0
-IsFull queue = length queue ≡ capacity
+abbrev pub HasNoRoom : List Msg → Type 0
+HasNoRoom queue = length queue ≡ capacity
 
 -- there is no message
 abbrev pub IsEmpty : List Msg → Type 0

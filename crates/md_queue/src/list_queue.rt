@@ -40,7 +40,7 @@ impl ListQueue {
 /// A message stands behind the others once it is sent. It is handed back exactly where eight are held.
 impl Outbox for ListQueue {
     ghost use Rattle.std.specs.Prelude.{⊤};
-    ghost use Rattle.md_queue.specs.Queue.{Appends, IsFull};
+    ghost use Rattle.md_queue.specs.Queue.{Appends, HasNoRoom};
 
     ghost serves = { λ _ _. ⊤ };
 
@@ -48,7 +48,7 @@ impl Outbox for ListQueue {
 
     ghost accepts = { Appends };
 
-    ghost was_full = { IsFull };
+    ghost was_full = { HasNoRoom };
 
     fn send(&mut self, msg: Msg) -> Result<(), Msg> {
         if !self.list.has_room() {

@@ -29,7 +29,7 @@ use Rattle.running_store.specs.declared.requests.Request.{Request}
 use Rattle.running_store.specs.declared.requests.Stale.{Stale}
 use Rattle.running_store.specs.TurnMade.{TurnMade}
 use Rattle.running_store.specs.StoreView.{rows_of, state_of, StoreView}
-use Rattle.md_thread.specs.Holding.{IsHeldOn, IsKept, Keeps, let_go, MetadataState, still_held}
+use Rattle.md_thread.specs.Holding.{IsHeldOn, IsKept, KeepsMessage, let_go, MetadataState, still_held}
 use Rattle.md_thread.specs.Turns as made
 use Rattle.md_thread.specs.Turns.{JobMade}
 use Rattle.md_thread.proofs.RowsLeft.{job_leaves}
@@ -88,10 +88,10 @@ module _ {D : Type 0} (d : Ghosts D) (p q : StoreView D) (stands : FillStands (s
 
   module _ (msg : Msg) (worked : worked_for own.fill own.held ≡ Some msg) where
     -- that command's message is kept
-    keeps : Keeps own msg
+    keeps : KeepsMessage own msg
     keeps = go own.fill refl
       where
-        go : (o : Option Msg) → own.fill ≡ o → Keeps own msg
+        go : (o : Option Msg) → own.fill ≡ o → KeepsMessage own msg
         go None none = is_held (sym (ap (λ o. worked_for o own.held) none) ∙ worked)
         go (Some x) fills = is_filled_for (fills ∙ (sym (ap (λ o. worked_for o own.held) fills) ∙ worked))
 

@@ -14,7 +14,7 @@ use Rattle.run_work.specs.Steps.{holds_command}
 use Rattle.run_moves.specs.DrivenStore.{run_of}
 use Rattle.run_moves.specs.FillTurns.{HoldsFill, worked_for}
 use Rattle.run_moves.specs.Projection.{claim_in_run, stage_in_run}
-use Rattle.md_thread.specs.Holding.{driven_by, IsKept, Keeps, messages_by, MetadataState}
+use Rattle.md_thread.specs.Holding.{driven_by, IsKept, KeepsMessage, messages_by, MetadataState}
 use Rattle.md_thread.specs.Turns.{HasJoined}
 use Rattle.md_thread.proofs.StepsDue.{command_waits, held_alone, insert_held, none_held}
 
@@ -77,7 +77,8 @@ behind m msg (x ∷ l) (inr rest) = elim (behind m msg l rest) [
   | inr e ↦ inr e
 ]
 
-still_keeps : (s : MetadataState) (msg m : Msg) → s.held ≡ Some msg → Keeps (waiting_too s msg) m → Keeps s m
+still_keeps : (s : MetadataState) (msg m : Msg) → s.held ≡ Some msg → KeepsMessage (waiting_too s msg) m
+    → KeepsMessage s m
 still_keeps s msg m held (not_sent is) = absurd (cc is)
 still_keeps s msg m held (in_queue is) = absurd is
 still_keeps s msg m held (is_held is) = absurd (cc is)
@@ -116,7 +117,7 @@ kept_without_held d p s free kept = record {
   works = works_still (state_of d p) s (record s { held = None }) refl free kept.works;
 }
   where
-    by : (m : Msg) → Keeps (record s { held = None }) m → Keeps s m
+    by : (m : Msg) → KeepsMessage (record s { held = None }) m → KeepsMessage s m
     by m (not_sent is) = absurd (cc is)
     by m (in_queue is) = absurd is
     by m (is_held is) = absurd (cc is)
@@ -131,7 +132,7 @@ kept_without_first d p s msg rest waits kept = record {
   works = kept.works;
 }
   where
-    by : (m : Msg) → Keeps (record s { waiting = rest }) m → Keeps s m
+    by : (m : Msg) → KeepsMessage (record s { waiting = rest }) m → KeepsMessage s m
     by m (not_sent is) = absurd (cc is)
     by m (in_queue is) = absurd is
     by m (is_held is) = is_held is

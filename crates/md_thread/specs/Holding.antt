@@ -36,12 +36,12 @@ at_first held = record { held = held; waiting = []; fill = None; found_none = fa
 -- ---- its messages
 
 -- it keeps the message: it holds it, or its command waits or is filled for
-abbrev pub Keeps : MetadataState → Msg → Type 0
-Keeps s msg = IsAmongThese (λ k. None) [] s.held s.waiting s.fill msg
+abbrev pub KeepsMessage : MetadataState → Msg → Type 0
+KeepsMessage s msg = IsAmongThese (λ k. None) [] s.held s.waiting s.fill msg
 
 -- each message that it keeps is a channel's, whose row is posted under its number
 abbrev pub AreCurrent : List Row → MetadataState → Type 0
-AreCurrent rows s = (msg : Msg) → Keeps s msg
+AreCurrent rows s = (msg : Msg) → KeepsMessage s msg
     → (msg.channel < 16) × ((rows_of rows msg.channel).stage ≡ Posted msg.serial)
 
 -- its messages, beside those that are still to be sent and that are queued

@@ -59,7 +59,7 @@ FillMoves told p q channel fill.Ended = FillEnd told p q channel
 
 -- A message was served by one turn; or its command, an inflate or a decouple, has become the fill, which goes on or has
 -- ended with its first turn.
-abbrev pub Serves : {D : Type 0} → Ghosts D → StoreView D → StoreView D → ℕ → Served → Type 0
-Serves d p q channel served.Done = ServingTurn d.tells (state_of d p) (state_of d q) channel
-Serves d p q channel (served.Fills filling) = IsFilledFor (rows_of p.rows channel)
+abbrev pub ServesMessage : {D : Type 0} → Ghosts D → StoreView D → StoreView D → ℕ → Served → Type 0
+ServesMessage d p q channel served.Done = ServingTurn d.tells (state_of d p) (state_of d q) channel
+ServesMessage d p q channel (served.Fills filling) = IsFilledFor (rows_of p.rows channel)
     × FillMoves d.tells (state_of d p) (state_of d q) channel filling

@@ -2,7 +2,7 @@
 
 ghost use Rattle.std.specs.Prelude.{◌≡◌, ◌≢◌, ◌<◌, None};
 ghost use Rattle.channel_turns.specs.FillTurns.{IsNextToFill};
-ghost use Rattle.md_thread.specs.Tasks.{FillMoves, Serves};
+ghost use Rattle.md_thread.specs.Tasks.{FillMoves, ServesMessage};
 ghost use Rattle.md_thread.specs.declared.serving.Served.TheVariants.{Done};
 ghost use Rattle.running_store.specs.Requests.{IsPostedBy};
 ghost use Rattle.running_store.specs.Stages.{is_stage};
@@ -81,7 +81,7 @@ pub(crate) fn serve<D: PageDisk>(
     requires no_job { plant.old.at.job ≡ None }
     requires repaired { IsRepaired (state_of D.PageDisk plant.old.at) }
     ensures turn { msg.channel < 16 → (rows_of plant.old.at.rows msg.channel).stage ≡ Posted msg.serial
-        → Serves D.PageDisk plant.old.at plant.new.at msg.channel result }
+        → ServesMessage D.PageDisk plant.old.at plant.new.at msg.channel result }
     ensures stale { (rows_of plant.old.at.rows msg.channel).stage ≢ Posted msg.serial
         → (plant.new ≡ plant.old) × (result ≡ Done) }
     ensures repaired { IsRepaired (state_of D.PageDisk plant.new.at) }

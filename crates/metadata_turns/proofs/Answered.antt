@@ -31,7 +31,7 @@ use Rattle.store_model.proofs.Synced.{edited_here, edited_there}
 use Rattle.metadata_turns.specs.declared.answering.Effect.{Effect}
 use Rattle.metadata_turns.specs.declared.answering.NewLive.{NewLive}
 use Rattle.running_store.proofs.Maps.{insert_given}
-use Rattle.metadata_turns.specs.Answering.{ComesTo, DoesVerb, IsAsked}
+use Rattle.metadata_turns.specs.Answering.{ComesTo, DoesVerb, IsAskedInMemory}
 
 -- ---- what a running store shows of a blob
 
@@ -197,7 +197,7 @@ answered_memory first p c.Df well is = unchanging first p well c.Df r.Memory tt 
 answered_memory first p _ well is = absurd is
 
 -- a command on attributes says nothing of what is free
-pub not_df : (f : Fixed) (v : Volumes) (command : Command) (reply : Reply) → IsAsked command
+pub not_df : (f : Fixed) (v : Volumes) (command : Command) (reply : Reply) → IsAskedInMemory command
     → Allowed f v command reply → (df : Df) → reply ≡ r.Df df → ⊥
 not_df f v (c.SetX volume key value) reply on allowed df is =
     (subst (Allowed f v (c.SetX volume key value)) is allowed).1

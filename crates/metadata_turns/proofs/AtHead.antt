@@ -15,7 +15,7 @@ use Rattle.running_store.specs.declared.replacements.Change.{Change}
 use Rattle.running_store.specs.declared.replacements.Change.TheVariants as changed
 use Rattle.running_store.specs.declared.replacements.Commit.{Commit}
 use Rattle.metadata_turns.specs.JobTurns.{with_job, IsAtWork}
-use Rattle.metadata_turns.specs.Telling.{HasRow}
+use Rattle.metadata_turns.specs.Telling.{HasServedRow}
 use Rattle.job_views.specs.Replacing.{committing, replacing_for}
 use Rattle.metadata_turns.proofs.InsertFailed.{insert_low}
 use Rattle.metadata_turns.proofs.JobFailed.{command, rest, row_left}
@@ -44,11 +44,11 @@ module _ {D : Type 0} (d : Ghosts D) (p : StoreView D) (x : Change) (old : List 
   where
     -- it is one of those that there are
     pub told_row : (serves : Serves) → IsAtHead d p serves x old more j → length p.rows ≡ 17
-        → HasRow p.rows serves (option_map reply_of (commit_of x))
+        → HasServedRow p.rows serves (option_map reply_of (commit_of x))
     told_row (whom.Command channel freeze) n seventeen = by (commit_of x) refl
       where
         by : (o : Option Commit) → commit_of x ≡ o
-            → HasRow p.rows (whom.Command channel freeze) (option_map reply_of (commit_of x))
+            → HasServedRow p.rows (whom.Command channel freeze) (option_map reply_of (commit_of x))
         by None is = rw is tt
         by (Some c) is =
             let waits : has_commit j.todo ≡ true = ap has_commit (n.todo

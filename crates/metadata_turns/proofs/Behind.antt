@@ -11,14 +11,14 @@ use Rattle.std.proofs.Math.Path.{fun_ext}
 use Rattle.std.proofs.lemmas.Bool.{cases_eq, eq-eqb, ne_eqb}
 use Rattle.page_disk.specs.declared.disk.PageDisk.{Ghosts}
 use Rattle.volume_model.specs.Xattrs.{Xattrs}
-use Rattle.io_freeze.specs.Guards.{GuardsState, removed, renewed}
+use Rattle.io_freeze.specs.Guards.{GuardsState, guard_removed, renewed}
 use Rattle.store_model.specs.Guarding.{all_renewed, frozen_behind, releasing}
 use Rattle.store_model.specs.Maps.{with_option, without_entry, Chains, Map, Metas}
 use Rattle.store_model.specs.Phases.{with_live, Phase}
 use Rattle.store_model.specs.Places.{all_set}
 use Rattle.store_model.specs.StoreState.{JobState, StoreState}
 use Rattle.store_model.specs.WithReplaced.{with_replaced}
-use Rattle.running_store.specs.Blobs.{blobs_behind, commit_of, live_of, numbered_in, Blobs, CanBeKept}
+use Rattle.running_store.specs.Blobs.{blobs_behind, commit_of, live_change, numbered_in, Blobs, CanBeKept}
 use Rattle.running_store.specs.Effects.{live_seen}
 use Rattle.running_store.specs.Jobs.{freeze_of, job_left, job_seen}
 use Rattle.running_store.specs.Places.{thawed, with_changes, with_numbers}
@@ -168,7 +168,7 @@ module _ {D : Type 0} (d : Ghosts D) (p : StoreView D) (serves : Serves) (j : Jo
   -- as the model says it
   abbrev pub behind_state : Change → List ℕ → StoreState
   behind_state x old = record (with_replaced s (replacing_for x old) (numbered_for x)) {
-    live = with_live s.live (option_map live_seen (live_of (commit_of x)));
+    live = with_live s.live (option_map live_seen (live_change (commit_of x)));
     job = left;
     frozen = frozen_behind s.frozen j rest;
     device = device_of d disk;
@@ -221,19 +221,20 @@ module _ {D : Type 0} (d : Ghosts D) (p : StoreView D) (serves : Serves) (j : Jo
       let number = numbered_are p.guards heads in
       parts_behind (change.Writes q) _ (with_option s.base q.head (Some q.new)) _
       (with_option s.chains q.head (Some (q.head ∷ drop 1 q.chain))) _
-      (with_live s.live (option_map live_seen (live_of q.effects.commit))) (with_numbers p.guards heads)
+      (with_live s.live (option_map live_seen (live_change q.effects.commit))) (with_numbers p.guards heads)
       (all_renewed s.generations s.drawn heads) (s.drawn + length heads)
       (base_behind (blobs_in p) (change.Writes q) can)
       (insert_given p.chains q.head q.chain ∙ ap (λ (l : List ℕ). with_option s.chains q.head (Some l)) whole)
-      (live_given p.live (live_of q.effects.commit)) number.generations number.drawn number.frozen
+      (live_given p.live (live_change q.effects.commit)) number.generations number.drawn number.frozen
   state_behind (change.Erases e) old can whole =
       let heads = numbered_in e.commit false e.head in
-      let number = numbered_are (removed p.guards e.head) heads in
+      let number = numbered_are (guard_removed p.guards e.head) heads in
       parts_behind (change.Erases e) _ (with_option s.base e.head None) _ (with_option s.chains e.head None) _
-      (with_live s.live (option_map live_seen (live_of e.commit))) (with_numbers (removed p.guards e.head) heads)
+      (with_live s.live (option_map live_seen (live_change e.commit)))
+      (with_numbers (guard_removed p.guards e.head) heads)
       (all_renewed (without_entry s.generations e.head) s.drawn heads) (s.drawn + length heads)
       (base_behind (blobs_in p) (change.Erases e) can) (remove_given p.chains e.head)
-      (live_given p.live (live_of e.commit))
+      (live_given p.live (live_change e.commit))
       (number.generations
       ∙ ap (λ (g : Map ℕ). all_renewed g s.drawn heads) (remove_given p.guards.generations e.head))
       number.drawn (number.frozen ∙ gone_thawed p.guards e.head whole)

@@ -16,10 +16,10 @@ use Rattle.store_model.specs.Jobs.{Does, IsStep, ReadsZeros}
 use Rattle.store_model.specs.Maps.{Map}
 use Rattle.store_model.specs.Phases.{erasing, has_commit, page_in, with_live, Committing, Phase, Replaces, Replacing}
 use Rattle.store_model.specs.Shown.{fixed_of}
-use Rattle.store_model.specs.StoreState.{going_on, live_of as live_shown, logged, shown, ForCommand, ForInsert}
+use Rattle.store_model.specs.StoreState.{going_on, live_change as live_shown, logged, shown, ForCommand, ForInsert}
 use Rattle.store_model.specs.StoreState.{JobState, StoreState}
 use Rattle.store_model.specs.WithReplaced.{made_by, with_replaced}
-use Rattle.running_store.specs.Blobs.{commit_of, live_of, numbered_in, CanBeKept}
+use Rattle.running_store.specs.Blobs.{commit_of, live_change, numbered_in, CanBeKept}
 use Rattle.running_store.specs.Effects.{commit_seen, live_seen}
 use Rattle.running_store.specs.GivingBack.{IsEntered}
 use Rattle.running_store.specs.Jobs.{job_left, service_of}
@@ -81,10 +81,10 @@ module _ {D : Type 0} (d : Ghosts D) (p : StoreView D) (x : Change) (old : List 
         by (changed.Writes planned) none = ap (λ (o : Option Commit).
             with_parts (replacing_for (changed.Writes planned) old)
             (numbered_in o (is_some planned.effects.rooms.chain) planned.head)
-            (with_live s.live (option_map live_seen (live_of o))) left) none
+            (with_live s.live (option_map live_seen (live_change o))) left) none
         by (changed.Erases erasure) none = ap (λ (o : Option Commit).
             with_parts (replacing_for (changed.Erases erasure) old)
-            (numbered_in o false erasure.head) (with_live s.live (option_map live_seen (live_of o))) left) none
+            (numbered_in o false erasure.head) (with_live s.live (option_map live_seen (live_change o))) left) none
 
     -- and with one those that it renews
     as_commit : (c : Commit) → commit_of x ≡ Some c
@@ -97,10 +97,10 @@ module _ {D : Type 0} (d : Ghosts D) (p : StoreView D) (x : Change) (old : List 
         by (changed.Writes planned) is = ap (λ (o : Option Commit).
             with_parts (replacing_for (changed.Writes planned) old)
             (numbered_in o (is_some planned.effects.rooms.chain) planned.head)
-            (with_live s.live (option_map live_seen (live_of o))) left) is
+            (with_live s.live (option_map live_seen (live_change o))) left) is
         by (changed.Erases erasure) is = ap (λ (o : Option Commit).
             with_parts (replacing_for (changed.Erases erasure) old)
-            (numbered_in o false erasure.head) (with_live s.live (option_map live_seen (live_of o))) left) is
+            (numbered_in o false erasure.head) (with_live s.live (option_map live_seen (live_change o))) left) is
 
     -- ---- no commit, of a command's job or a repair's
 

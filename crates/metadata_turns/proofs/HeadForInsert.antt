@@ -18,7 +18,7 @@ use Rattle.store_model.specs.Rows.{InJob, Row, Rows, Stage, with_row}
 use Rattle.store_model.specs.StoreState.{JobState, StoreState}
 use Rattle.store_model.specs.WithReplaced.{with_replaced}
 use Rattle.store_model.proofs.Guarding.{frozen_still}
-use Rattle.running_store.specs.Blobs.{live_of, numbered_in, CanBeKept}
+use Rattle.running_store.specs.Blobs.{live_change, numbered_in, CanBeKept}
 use Rattle.running_store.specs.Effects.{commit_seen, live_seen}
 use Rattle.running_store.specs.Jobs.{job_left, AreNone}
 use Rattle.running_store.specs.StoreView.{StoreView, device_of, rows_of, state_of}
@@ -88,10 +88,11 @@ module _ {D : Type 0} (d : Ghosts D) (p : StoreView D) (row : ℕ) (planned : Pl
       let makes = is_some planned.effects.rooms.chain in
       behind
       ∙ ap (λ (l : List ℕ). with_all l (heads_by planned.effects.commit makes)
-      (with_live si.live (option_map live_seen (live_of planned.effects.commit)))
+      (with_live si.live (option_map live_seen (live_change planned.effects.commit)))
       (si.drawn + length (heads_by planned.effects.commit makes)) frozen) none.freed
       ∙ ap (λ (o : Option Commit). with_all [] (heads_by o makes)
-      (with_live si.live (option_map live_seen (live_of o))) (si.drawn + length (heads_by o makes)) frozen) none.commit
+      (with_live si.live (option_map live_seen (live_change o))) (si.drawn + length (heads_by o makes)) frozen)
+      none.commit
       ∙ ap (λ (o : Option ℕ). with_all [] (heads_by None (is_some o)) si.live
       (si.drawn + length (heads_by None (is_some o))) frozen) none.there
       ∙ ap (λ (k : ℕ). with_all [] [] si.live k frozen) (let same : si.drawn + 0 ≡ si.drawn = omega arith in same)

@@ -59,13 +59,13 @@ module _ (p : StoreState) (running : IsRunning p) (runs : p.stopped ≡ None) (m
 
     same_at : (h : ℕ) (o : Option Volume) (n : Option Meta) (l : Option Xattrs) → ShowsAt f o n
         → option_map (λ (x : Volume). x.live) o ≡ l
-        → option_and_then (λ m. option_map (infos.info_of h m) l) n ≡ option_map (steps.info_of f h) o
+        → option_and_then (λ m. option_map (infos.blob_info h m) l) n ≡ option_map (steps.info_of f h) o
     same_at h None None l e is = refl
     same_at h None (Some m) l e is = absurd e
     same_at h (Some x) None l e is = absurd e
     same_at h (Some x) (Some m) l e is =
-        let a : Info = infos.info_of h m x.live in
-        ap (λ o. option_map (infos.info_of h m) o) (sym is)
+        let a : Info = infos.blob_info h m x.live in
+        ap (λ o. option_map (infos.blob_info h m) o) (sym is)
         ∙ ap (λ n. Some (record a { slots = n })) (sym e.slots_are)
         ∙ ap (λ q. Some (record a { slots = slots_of f x; parent = q })) (sym e.parent_is)
         ∙ ap (λ b. Some (record a { slots = slots_of f x; parent = x.parent; thin = b })) (sym e.thin_is)

@@ -23,7 +23,7 @@ use Rattle.store_model.proofs.Used.{within}
 use Rattle.store_model.proofs.Shaped.{waits_for_commit}
 use Rattle.store_model.proofs.Zeroing.{commit_zeros}
 use Rattle.running_store.specs.Jobs.{behind_zero, service_of, waits_for_job, writing_for, zeroing_for, IsZeroedFor}
-use Rattle.running_store.specs.Zeroing.{next_zeroed, pages_from, IsLeft}
+use Rattle.running_store.specs.Zeroing.{next_zeroed, zeroed_from, IsLeft}
 use Rattle.metadata_turns.specs.JobTurns.{with_job, IsAtWork, TurnsJob}
 use Rattle.running_store.specs.StoreView.{StoreView, device_of, state_of}
 use Rattle.running_store.specs.declared.replacements.Planned.{Planned}
@@ -73,7 +73,7 @@ module _ {D : Type 0} (d : Ghosts D) (p : StoreView D) (serves : Serves) (planne
 
   waits : has_commit j.todo ≡ true
   waits =
-      commit_zeros (pages_from z.cluster_pages (drop z.clusters claimed) z.pages)
+      commit_zeros (zeroed_from z.cluster_pages (drop z.clusters claimed) z.pages)
       (writing_for serves planned old 0 more).todo
       ∙ commit_writing planned (drop 0 (drop 1 planned.chain)) old more
       ∙ ap (λ b. b || has_commit more) (zeroed_of serves planned z zeroed).2

@@ -20,12 +20,12 @@ use Rattle.metadata_turns.specs.declared.answering.Effect.{Effect}
 use Rattle.metadata_turns.specs.declared.answering.NewLive.{NewLive}
 
 -- a command on attributes that is answered in memory
-abbrev pub IsAsked : Command → Type 0
-IsAsked command = IsOnAttributes command × IsInMemory command
+abbrev pub IsAskedInMemory : Command → Type 0
+IsAskedInMemory command = IsOnAttributes command × IsInMemory command
 
 -- such a command, or one that asks what there is
 abbrev pub IsAnswerable : Command → Type 0
-IsAnswerable command = IsAsked command ⊎ IsQuestion command
+IsAnswerable command = IsAskedInMemory command ⊎ IsQuestion command
 
 -- What is found of the volume that a command names: its head, where it is there, and its live attributes.
 pub record IsFound (metas : map.FinMap nat_cmp Meta) (sup : Super) (live : map.FinMap nat_cmp Xattrs)

@@ -27,8 +27,8 @@ IsQuestion c.Df = Unit {0}
 IsQuestion _ = ⊥
 
 -- what its metadata and its live attributes say of the blob at a head
-abbrev pub info_of : ℕ → Meta → Xattrs → Info
-info_of head m live = record {
+abbrev pub blob_info : ℕ → Meta → Xattrs → Info
+blob_info head m live = record {
   head = head;
   name = told live name_key;
   uuid = told live uuid_key;
@@ -46,7 +46,7 @@ ParentsFit metas = (h p : ℕ) (m : Meta) → map.get metas h ≡ Some m → par
 module _ (metas : map.FinMap nat_cmp Meta) (live : map.FinMap nat_cmp Xattrs) where
   -- what is known of the blob at a head, if one is there
   abbrev pub info_at : ℕ → Option Info
-  info_at head = option_and_then (λ m. option_map (info_of head m) (map.get live head)) (map.get metas head)
+  info_at head = option_and_then (λ m. option_map (blob_info head m) (map.get live head)) (map.get metas head)
 
   module _ (sup : Super) where
     -- what a list tells of a head: nothing of the super blob

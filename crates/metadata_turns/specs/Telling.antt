@@ -47,11 +47,11 @@ HasInsertRow (whom.Insert row) = row < 17
 HasInsertRow other = Unit {0}
 
 -- and that of a command with its reply is a channel's, which has a command
-abbrev pub HasRow : List Row → Serves → Option Reply → Type 0
-HasRow rows (whom.Command channel freeze) (Some reply) = HasCommand rows channel
-HasRow rows (whom.Insert row) reply = row < 17
-HasRow rows other reply = Unit {0}
+abbrev pub HasServedRow : List Row → Serves → Option Reply → Type 0
+HasServedRow rows (whom.Command channel freeze) (Some reply) = HasCommand rows channel
+HasServedRow rows (whom.Insert row) reply = row < 17
+HasServedRow rows other reply = Unit {0}
 
 -- a job goes on with this, or is done
-abbrev pub gone_on : {D : Type 0} → Running D → Serves → Option RunningJob → Running D
-gone_on running serves left = record running { job = left; guards = guards_left running.guards serves left }
+abbrev pub job_gone_on : {D : Type 0} → Running D → Serves → Option RunningJob → Running D
+job_gone_on running serves left = record running { job = left; guards = guards_left running.guards serves left }

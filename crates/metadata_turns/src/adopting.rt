@@ -10,7 +10,7 @@ ghost use Rattle.store_model.specs.Places.{AreDistinct};
 ghost use Rattle.running_store.specs.Blobs.{blobs_of, marked_given, metas_given, numbered_in, HasCommitPlaces};
 ghost use Rattle.running_store.specs.Blobs.{HasPlaces, HasPlacesFor};
 ghost use Rattle.running_store.specs.Places.{with_changes, with_numbers, CanNumber, HasPlace, HasPlaceFor};
-ghost use Rattle.running_store.specs.Running.{adopted, forgotten};
+ghost use Rattle.running_store.specs.Running.{blob_adopted, forgotten};
 ghost use Rattle.running_store.specs.declared.replacements.Change.TheVariants.{Erases};
 
 use bit_array::Bits;
@@ -29,7 +29,7 @@ pub(crate) fn adopt<D>(running: &mut Running<D>, planned: Planned)
     requires unclaimed { running.old.clusters.claims ≡ [] }
     requires once { AreDistinct planned.effects.freed }
     requires in_use { All (λ cluster. is_in running.old.clusters.bits cluster ≡ true) planned.effects.freed }
-    ensures { running.new ≡ adopted running.old planned }
+    ensures { running.new ≡ blob_adopted running.old planned }
 {
     let (head, new, effects, chain) = planned.apart();
     let Effects {

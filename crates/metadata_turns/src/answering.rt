@@ -7,7 +7,7 @@ ghost use Rattle.blob_meta.specs.Asked.{HasValue, IsLiveOf, IsOnAttributes};
 ghost use Rattle.store_model.specs.Cases.{IsInMemory};
 ghost use Rattle.store_model.specs.Cases as kind;
 ghost use Rattle.super_block.specs.Faults.{IsFaultless};
-ghost use Rattle.metadata_turns.specs.Answering.{ComesTo, DoesVerb, IsAnswerable, IsAsked};
+ghost use Rattle.metadata_turns.specs.Answering.{ComesTo, DoesVerb, IsAnswerable, IsAskedInMemory};
 ghost use Rattle.metadata_turns.specs.Infos.{IsQuestion};
 ghost use Rattle.running_store.specs.RunningState.{IsRunning};
 ghost use Rattle.running_store.specs.TurnMade.{TurnMade};
@@ -127,7 +127,7 @@ fn answer_on_attributes<D: PageDisk>(running: &mut Running<D>, channel: u8)
     requires channel { channel < 16 }
     requires posted { IsPostedAt (view_of running.old) channel }
     requires unfilled { running.old.filling ≢ Some channel }
-    requires asked { Asks (view_of running.old) channel IsAsked }
+    requires asked { Asks (view_of running.old) channel IsAskedInMemory }
     requires running { IsRunning (state_of D.PageDisk (view_of running.old)) }
     requires runs { running.old.stopped ≡ None }
     requires no_job { running.old.job ≡ None }

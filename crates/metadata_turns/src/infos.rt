@@ -34,7 +34,7 @@ fn parent_head(meta: &Meta) -> Option<u32>
 /// What its metadata and its live attributes say of the blob at a head.
 fn info_of(alloc: Global, head: u32, meta: &Meta, live: &XattrList) -> Result<Info, Memory>
     requires { IfSome (parent_said meta.now) (λ parent. parent < 2 ^ 32) }
-    ensures { IfOk result (λ info. info ≡ said.info_of head meta.now live.now) }
+    ensures { IfOk result (λ info. info ≡ said.blob_info head meta.now live.now) }
 {
     // As many attributes as don't fit the number find no memory either.
     let Ok(xattrs) = u32::try_from(live.len()) else {

@@ -7,8 +7,8 @@ ghost use Rattle.metadata_turns.specs.JobTurns.{answer_of, guards_left, stopped_
 ghost use Rattle.running_store.specs.Running.{view_of, InOrder};
 ghost use Rattle.running_store.specs.Stages.{stage_seen};
 ghost use Rattle.running_store.specs.Jobs.{freeze_of};
-ghost use Rattle.metadata_turns.specs.Telling.{let_go_at, HasFailed, HasInsertRow, HasRow, HasWaitingRow, IsTold};
-ghost use Rattle.metadata_turns.specs.Telling.{gone_on, IsWon};
+ghost use Rattle.metadata_turns.specs.Telling.{let_go_at, HasFailed, HasInsertRow, HasServedRow, HasWaitingRow, IsTold};
+ghost use Rattle.metadata_turns.specs.Telling.{job_gone_on, IsWon};
 
 use crate::job_turn::JobTurn;
 use io_freeze::Guards;
@@ -25,7 +25,7 @@ pub(crate) fn tell<D: PageDisk>(
     next: Stage,
 )
     requires order { InOrder D.PageDisk running.old }
-    requires row { HasRow running.old.rows.items serves reply }
+    requires row { HasServedRow running.old.rows.items serves reply }
     ensures told { IsTold serves reply (stage_seen next) (view_of running.old) (view_of running.new)
         (D.clock running.new.disk) }
     ensures order { InOrder D.PageDisk running.new }
@@ -120,7 +120,7 @@ fn stop<D: PageDisk>(running: &mut Running<D>, freeze: Option<u32>) -> JobTurn
 
 /// The job goes on with what is left of it. Where that is nothing the blob that it froze is released.
 pub(crate) fn go_on<D>(running: &mut Running<D>, serves: Serves, left: Option<RunningJob>)
-    ensures { running.new ≡ gone_on running.old serves left }
+    ensures { running.new ≡ job_gone_on running.old serves left }
 {
     thaw(&mut running.guards, serves, &left);
     running.job = left;

@@ -7,14 +7,14 @@ use Rattle.page_disk.specs.declared.disk.WriteKind.{WriteKind}
 use Rattle.page_disk.specs.declared.disk.PageDisk.{Ghosts}
 use Rattle.page_disk.proofs.Moments.{goes_on, written, not_written}
 use Rattle.page_disk.proofs.Images.{with_page-here, with_page-elsewhere}
-use Rattle.page_runs.specs.Content.{page_at, IsFilled}
+use Rattle.page_runs.specs.Content.{page_at, HoldsContent}
 use Rattle.page_runs.specs.Writing.{IsAnyBut, IsBetween, SameBut, WritesOnly}
 use Rattle.page_runs.specs.declared.content.Content.{Content}
 
 -- what is known while so many pages from a start on are written, after this many of them
 pub record Filling {D : Type 0} (d : Ghosts D) (content : Content) (start count : ℕ) (first disk : D)
     (index : ℕ) : Type 0 where
-  pub filled : IsTrue d.tells → IsFilled content start index (d.now disk)
+  pub filled : IsTrue d.tells → HoldsContent content start index (d.now disk)
   pub only : WritesOnly d (IsBetween start (start + count)) first disk
   pub quiet : d.write_faults disk ≡ d.write_faults first
 
@@ -22,7 +22,7 @@ module _ (content : Content) (start count index : ℕ) (low : index < count) (pl
     (at : place ≡ start + index) where
   -- a page is put at the next place
   pub one_more : (old new : Image) → new ≡ with_page old place (page_at content index)
-      → IsFilled content start index old → IsFilled content start (index + 1) new
+      → HoldsContent content start index old → HoldsContent content start (index + 1) new
   one_more old new is filled =
       below_more (λ k. new (start + k) ≡ page_at content k) index
       (λ k lt. ap (λ (i : Image). i (start + k)) is

@@ -16,5 +16,5 @@ HasPages Zeros count = Unit {0}
 HasPages (Mask kind bits) count = count ≤ mask_pages (length bits.now)
 
 -- so many pages from a start on are those of the content
-abbrev pub IsFilled : Content → ℕ → ℕ → Image → Type 0
-IsFilled content start count image = (k : ℕ) → k < count → image (start + k) ≡ page_at content k
+abbrev pub HoldsContent : Content → ℕ → ℕ → Image → Type 0
+HoldsContent content start count image = (k : ℕ) → k < count → image (start + k) ≡ page_at content k

@@ -2,7 +2,7 @@
 
 ghost use Rattle.std.specs.Prelude.{◌≡◌, ◌≤◌, ◌+◌, OnOk, IsTrue};
 ghost use Rattle.page_disk.specs.Disk.{HasCause};
-ghost use Rattle.page_runs.specs.Content.{HasPages, IsFilled};
+ghost use Rattle.page_runs.specs.Content.{HasPages, HoldsContent};
 ghost use Rattle.page_runs.specs.Writing.{IsBetween, WritesOnly};
 
 use crate::content::Content;
@@ -18,7 +18,7 @@ pub fn write_pages<D: PageDisk>(
 ) -> Result<(), DiskFault>
     requires inside { start + count ≤ D.pages disk.old }
     requires enough { HasPages content.now count }
-    ensures filled { IsTrue D.tells → OnOk result (IsFilled content.now start count (D.now disk.new)) }
+    ensures filled { IsTrue D.tells → OnOk result (HoldsContent content.now start count (D.now disk.new)) }
     ensures only { WritesOnly D.PageDisk (IsBetween start (start + count)) disk.old disk.new }
     ensures faults { HasCause (D.write_faults disk.old) (D.write_faults disk.new) result }
     ensures no_fault { OnOk result (D.write_faults disk.new ≡ D.write_faults disk.old) }

@@ -9,7 +9,7 @@ use Rattle.std.proofs.lemmas.List.Kept.{AllPairs-filter}
 use Rattle.std.proofs.lemmas.List.Filters.{length-filter_both}
 use Rattle.std.proofs.lemmas.List.Sums.{length-filter}
 use Rattle.bit_array.specs.Bits.{is_in, member_count, IsLeastClear}
-use Rattle.pools.specs.Pool.{PoolState, IsBacked, claimed, clear_in, freed, given_back, kept, claims_without}
+use Rattle.pools.specs.Pool.{PoolState, IsBacked, claimed, clear_in, freed, claim_given_back, kept, claims_without}
 
 passes_apart : (c at : ℕ) → not (eqb c at) ≡ true → c ≢ at
 passes_apart c at passed same = both_ways (not (eqb c at)) (ap not (eq-eqb c at same)) passed
@@ -36,7 +36,7 @@ kept-IsBacked p at was = record {
 }
 
 -- after a claim was given back
-pub given_back-IsBacked : (p : PoolState) (at : ℕ) → IsBacked p → IsBacked (given_back p at)
+pub given_back-IsBacked : (p : PoolState) (at : ℕ) → IsBacked p → IsBacked (claim_given_back p at)
 given_back-IsBacked p at was =
     let left = kept-IsBacked p at was in
     record {
@@ -69,7 +69,7 @@ set_back bits at within clear =
 
 -- a claim that is given back at once leaves the pool as it was
 pub given_back-claimed : (p : PoolState) (at : ℕ) → IsBacked p → IsLeastClear p.bits at
-    → given_back (claimed p at) at ≡ p
+    → claim_given_back (claimed p at) at ≡ p
 given_back-claimed p at was least =
     let bits : slice_set (slice_set p.bits at true) at false ≡ p.bits = set_back p.bits at least.within least.clear in
     let none : All (λ c. c ≢ at) p.claims = λ k d h same.

@@ -21,8 +21,8 @@ abbrev pub claimed : PoolState → ℕ → PoolState
 claimed p at = record { bits = slice_set p.bits at true; claims = at ∷ p.claims }
 
 -- an open claim is given back: its place is clear again
-abbrev pub given_back : PoolState → ℕ → PoolState
-given_back p at = record { bits = slice_set p.bits at false; claims = claims_without p.claims at }
+abbrev pub claim_given_back : PoolState → ℕ → PoolState
+claim_given_back p at = record { bits = slice_set p.bits at false; claims = claims_without p.claims at }
 
 -- an open claim ends, and its place stays in use
 abbrev pub kept : PoolState → ℕ → PoolState

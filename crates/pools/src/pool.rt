@@ -64,7 +64,7 @@ impl<K> Model for Pool<K> {
 impl<K> Pool<K> {
     ghost use Rattle.std.specs.Prelude.{◌≡◌, ◌↔◌, true, All, AllPairs, ◌≢◌, Contains, [], IfSome, IfNone, IsNone};
     ghost use Rattle.bit_array.specs.Bits.{is_in, IsFull, IsLeastClear};
-    ghost use Rattle.pools.specs.Pool.{claimed, clear_in, freed, given_back, kept};
+    ghost use Rattle.pools.specs.Pool.{claimed, clear_in, freed, claim_given_back, kept};
 
     /// A pool whose places in use are these, with no open claim.
     pub fn new(bits: Bits) -> Pool<K>
@@ -107,7 +107,7 @@ impl<K> Pool<K> {
     /// Ends a claim, and its place is clear again.
     pub fn give_back(&mut self, claim: Claim)
         requires { Contains self.old.claims claim }
-        ensures { self.new ≡ given_back self.old claim }
+        ensures { self.new ≡ claim_given_back self.old claim }
     {
         let Claim { at: place } = claim;
         self.bits.clear(place);

@@ -17,12 +17,12 @@ use Rattle.store_model.specs.Phases.{marking, OnlyMend, Phase, phases_of, replac
 use Rattle.store_model.specs.Phases.{Replacing}
 use Rattle.store_model.specs.RunInvariant.{AreStored, RunInvariant}
 use Rattle.store_model.specs.StoreState.{ForCommand, ForInsert, ForRepair, going_on, JobState, StoreState}
-use Rattle.store_model.specs.StoreState.{turns_left as turns_of}
+use Rattle.store_model.specs.StoreState.{store_turns_left as turns_of}
 use Rattle.store_model.specs.Turning.{Runs}
 use Rattle.store_model.proofs.Progress.{same_job, turns_here}
 use Rattle.repair_runs.specs.RepairLaws.{GoesOnMending, HasBegunToMend}
 use Rattle.repair_runs.specs.RepairRuns.{has_mark, IsMending, IsOfInsert, IsOfRepair, marks_left, mended}
-use Rattle.repair_runs.specs.RepairRuns.{replacements_in, to_mend, turns_left}
+use Rattle.repair_runs.specs.RepairRuns.{replacements_left, to_mend, store_turns_left}
 use Rattle.repair_runs.proofs.FewerMarks.{fewer_marks}
 use Rattle.repair_runs.proofs.Replacements.{first_marked, one_replacement}
 
@@ -99,19 +99,19 @@ module _ (marks : ℕ) (p : StoreState) (mending : IsMending marks p) where
 
   module _ (q : StoreState) (job : JobState) (is : p.job ≡ Some job) (phase : Phase) (rest : List Phase)
       (next : job.todo ≡ phase ∷ rest) (left : IsLeft q.job job rest) (super : q.super ≡ p.super) where
-    fewer : turns_left q < turns_left p
+    fewer : store_turns_left q < store_turns_left p
     fewer =
         let here = turns_here p.job job phase rest is next in
         let behind = turns_behind q.job job rest left in
         omega (arith, here, behind)
 
     -- the job that is known is the one that is left to do this
-    todo_is : (j : JobState) → p.job ≡ Some j → replacements_in (phase ∷ rest) ≡ replacements_in j.todo
-    todo_is j j_is = ap replacements_in (sym next)
-        ∙ ap (λ (i : JobState). replacements_in i.todo) (same_job p.job job j is j_is)
+    todo_is : (j : JobState) → p.job ≡ Some j → replacements_left (phase ∷ rest) ≡ replacements_left j.todo
+    todo_is j j_is = ap replacements_left (sym next)
+        ∙ ap (λ (i : JobState). replacements_left i.todo) (same_job p.job job j is j_is)
 
     -- behind a page
-    page_mends : replacements_in (phase ∷ rest) ≡ replacements_in rest → q.base ≡ p.base → IsMending marks q
+    page_mends : replacements_left (phase ∷ rest) ≡ replacements_left rest → q.base ≡ p.base → IsMending marks q
     page_mends page base = by mending
       where
         same : marks_left q ≡ marks_left p
@@ -119,9 +119,9 @@ module _ (marks : ℕ) (p : StoreState) (mending : IsMending marks p) where
 
         by : IsMending marks p → IsMending marks q
         by (to_mend x count) =
-            let one : replacements_in rest ≡ x.replacing ∷ [] = sym page ∙ todo_is x.job x.is ∙ x.one in
+            let one : replacements_left rest ≡ x.replacing ∷ [] = sym page ∙ todo_is x.job x.is ∙ x.one in
             let some : rest ≢ [] = λ none.
-            let bad : [] ≡ x.replacing ∷ [] = sym (ap replacements_in none) ∙ one in cc bad in
+            let bad : [] ≡ x.replacing ∷ [] = sym (ap replacements_left none) ∙ one in cc bad in
             let now = left.there some in
             let alike = left.alike now.0 now.1 in
             to_mend (record {
@@ -129,16 +129,16 @@ module _ (marks : ℕ) (p : StoreState) (mending : IsMending marks p) where
               is = now.1;
               serves = alike.0 ∙ serves_repair job is;
               replacing = x.replacing;
-              one = ap replacements_in alike.1 ∙ one;
+              one = ap replacements_left alike.1 ∙ one;
               marked = ap (λ (m : Metas). has_mark m x.replacing.head) base ∙ x.marked;
             }) (same ∙ count)
         by (mended none count) = mended (λ j j_is. (
           (left.alike j j_is).0 ∙ serves_repair job is,
-          ap replacements_in (left.alike j j_is).1 ∙ sym page ∙ todo_is job is ∙ (none job is).1,
+          ap replacements_left (left.alike j j_is).1 ∙ sym page ∙ todo_is job is ∙ (none job is).1,
         )) (subst (λ n. n < marks) (sym same) count)
 
     -- behind its replacement
-    replacement_mends : (r : Replacing) → replacements_in (phase ∷ rest) ≡ r ∷ replacements_in rest
+    replacement_mends : (r : Replacing) → replacements_left (phase ∷ rest) ≡ r ∷ replacements_left rest
         → ((m : Meta) → r.new ≡ Some m → mark_of m ≡ None)
         → (has_mark p.base r.head ≡ true → r.head < p.super.md_len) → q.base ≡ replaced p.base r → IsMending marks q
     replacement_mends r here unmarked low base = by mending
@@ -148,18 +148,18 @@ module _ (marks : ℕ) (p : StoreState) (mending : IsMending marks p) where
 
         by : IsMending marks p → IsMending marks q
         by (to_mend x count) =
-            let one : r ∷ replacements_in rest ≡ x.replacing ∷ [] = sym here ∙ todo_is x.job x.is ∙ x.one in
+            let one : r ∷ replacements_left rest ≡ x.replacing ∷ [] = sym here ∙ todo_is x.job x.is ∙ x.one in
             let same : r ≡ x.replacing = cc one in
-            let none : replacements_in rest ≡ [] = cc one in
+            let none : replacements_left rest ≡ [] = cc one in
             let marked : has_mark p.base r.head ≡ true =
             ap (λ (y : Replacing). has_mark p.base y.head) same ∙ x.marked in
             let less = fewer_marks p.base r unmarked p.super.md_len (low marked) marked in
             mended (λ j j_is. (
               (left.alike j j_is).0 ∙ serves_repair job is,
-              ap replacements_in (left.alike j j_is).1 ∙ none,
+              ap replacements_left (left.alike j j_is).1 ∙ none,
             )) (omega (arith, now, less, count))
         by (mended none count) =
-            let bad : r ∷ replacements_in rest ≡ [] = sym here ∙ todo_is job is ∙ (none job is).1 in
+            let bad : r ∷ replacements_left rest ≡ [] = sym here ∙ todo_is job is ∙ (none job is).1 in
             absurd (cc bad)
 
 -- ---- each kind
@@ -168,7 +168,7 @@ module _ (told : Bool) (s : Super) (first : Volumes) (script : ℕ → List Comm
     (facts : RunInvariant s first script p) (runs : p.stopped ≡ None) (mending : IsMending marks p) where
   -- a page is written
   writes : (kind : Kind) → IsOfRepair kind → {n q : StoreState} {phase : Phase} (running : Runs p phase) → q ≡ n
-      → replacements_in (phase ∷ running.rest) ≡ replacements_in running.rest
+      → replacements_left (phase ∷ running.rest) ≡ replacements_left running.rest
       → IsLeft n.job running.job running.rest
       → n.super ≡ p.super → n.base ≡ p.base → n.log ≡ p.log → n.rows ≡ p.rows → n.stopped ≡ p.stopped
       → GoesOnMending marks p kind q
@@ -195,7 +195,7 @@ module _ (told : Bool) (s : Super) (first : Volumes) (script : ℕ → List Comm
         rows = rows;
         fewer =
             let here = turns_here p.job running.job phase running.rest running.is running.next in
-            let none : turns_left n ≡ 0 = ap turns_of job in
+            let none : store_turns_left n ≡ 0 = ap turns_of job in
             omega (arith, here, none);
         after = inr (stopped, job);
       })
@@ -269,7 +269,7 @@ module _ (told : Bool) (s : Super) (first : Volumes) (script : ℕ → List Comm
 
 -- a mark is no replacement
 replacements_marking : (clean : Bool) (todo : List Phase)
-    → replacements_in (marking clean todo) ≡ replacements_in todo
+    → replacements_left (marking clean todo) ≡ replacements_left todo
 replacements_marking true todo = refl
 replacements_marking false todo = refl
 

@@ -11,22 +11,22 @@ use Rattle.blob_meta.specs.Repairs.{has_kept_mark, heads_where, is_removed, repa
 use Rattle.blob_meta.specs.Resolving.{is_kept, mark_of}
 use Rattle.store_model.specs.Maps.{Metas}
 use Rattle.store_model.specs.Phases.{Committing, erasing, Phase, phases_of, Replaces, Replacing, writing}
-use Rattle.repair_runs.specs.RepairRuns.{has_mark, replacements_in}
+use Rattle.repair_runs.specs.RepairRuns.{has_mark, replacements_left}
 
 -- ---- phases
 
-behind_pages : (fresh : List ℕ) (rest : List Phase) → replacements_in (writing fresh rest) ≡ replacements_in rest
+behind_pages : (fresh : List ℕ) (rest : List Phase) → replacements_left (writing fresh rest) ≡ replacements_left rest
 behind_pages [] rest = refl
 behind_pages (place ∷ places) rest = behind_pages places rest
 
-none_clearing : (old places : List ℕ) → replacements_in (erasing old places []) ≡ []
+none_clearing : (old places : List ℕ) → replacements_left (erasing old places []) ≡ []
 none_clearing old [] = refl
 none_clearing old (place ∷ []) = refl
 none_clearing old (place ∷ next ∷ places) = none_clearing old (next ∷ places)
 
 -- the phases of one replacement have it alone
 pub one_replacement : (r : Replacing) (commit : Option Committing)
-    → replacements_in (phases_of r commit []) ≡ r ∷ []
+    → replacements_left (phases_of r commit []) ≡ r ∷ []
 one_replacement r commit =
     behind_pages r.fresh (Replaces r commit ∷ erasing r.old r.old []) ∙ ap (λ l. r ∷ l) (none_clearing r.old r.old)
 

@@ -8,7 +8,7 @@ use Rattle.store_model.specs.Cases.{BeginsRepair, Kind, the, Turn}
 use Rattle.store_model.specs.Repairing.{IsRepaired}
 use Rattle.store_model.specs.RunInvariant.{RunInvariant}
 use Rattle.store_model.specs.StoreState.{StoreState}
-use Rattle.repair_runs.specs.RepairRuns.{IsMending, IsOfInsert, IsOfRepair, marks_left, RepairRun, turns_left}
+use Rattle.repair_runs.specs.RepairRuns.{IsMending, IsOfInsert, IsOfRepair, marks_left, RepairRun, store_turns_left}
 
 -- A repair has begun: it is to mend one of the blobs with a mark, nothing is logged, and the rows are as they were.
 pub record HasBegunToMend (p q : StoreState) : Type 0 where
@@ -23,7 +23,7 @@ pub record GoesOnMending (marks : ℕ) (p : StoreState) (kind : Kind) (q : Store
   pub of_repair : IsOfRepair kind
   pub log : q.log ≡ p.log
   pub rows : q.rows ≡ p.rows
-  pub fewer : turns_left q < turns_left p
+  pub fewer : store_turns_left q < store_turns_left p
   pub after : ((q.stopped ≡ None) × IsMending marks q) ⊎ ((q.stopped ≡ Some (length p.log)) × (q.job ≡ None))
 
 pub record RepairLaws : Type 0 where

@@ -7,7 +7,7 @@ use Rattle.store_model.specs.Cases.{Kind, Run, the}
 use Rattle.store_model.specs.Cases as kind
 use Rattle.store_model.specs.Maps.{Metas}
 use Rattle.store_model.specs.Phases.{Phase, Replaces, Replacing}
-use Rattle.store_model.specs.StoreState.{ForRepair, JobState, StoreState, turns_left as turns_of}
+use Rattle.store_model.specs.StoreState.{ForRepair, JobState, StoreState, store_turns_left as turns_of}
 
 -- ---- turns
 
@@ -42,14 +42,14 @@ abbrev pub marks_left : StoreState → ℕ
 marks_left p = length (heads_where p.super.md_len (has_mark p.base))
 
 -- how many turns are left of the running job
-abbrev pub turns_left : StoreState → ℕ
-turns_left p = turns_of p.job
+abbrev pub store_turns_left : StoreState → ℕ
+store_turns_left p = turns_of p.job
 
 -- the replacements that are left to do
-abbrev pub replacements_in : List Phase → List Replacing
-replacements_in [] = []
-replacements_in (Replaces r commit ∷ rest) = r ∷ replacements_in rest
-replacements_in (_ ∷ rest) = replacements_in rest
+abbrev pub replacements_left : List Phase → List Replacing
+replacements_left [] = []
+replacements_left (Replaces r commit ∷ rest) = r ∷ replacements_left rest
+replacements_left (_ ∷ rest) = replacements_left rest
 
 -- A repair's job has one replacement left to do, of a blob with a mark.
 pub record HasOneToMend (p : StoreState) : Type 0 where
@@ -57,13 +57,13 @@ pub record HasOneToMend (p : StoreState) : Type 0 where
   pub is : p.job ≡ Some job
   pub serves : job.serves ≡ ForRepair
   pub replacing : Replacing
-  pub one : replacements_in job.todo ≡ replacing ∷ []
+  pub one : replacements_left job.todo ≡ replacing ∷ []
   pub marked : has_mark p.base replacing.head ≡ true
 
 -- the running job, if there is one, is a repair's with no replacement left to do
 abbrev pub HasNoneToMend : StoreState → Type 0
 HasNoneToMend p = (job : JobState) → p.job ≡ Some job
-    → (job.serves ≡ ForRepair) × (replacements_in job.todo ≡ [])
+    → (job.serves ≡ ForRepair) × (replacements_left job.todo ≡ [])
 
 -- A repair that began where this many blobs had a mark is still to mend one of them, or has left fewer.
 pub data IsMending (marks : ℕ) (p : StoreState) : Type 0 where

@@ -15,7 +15,7 @@ use Rattle.store_model.specs.Jobs.{pages_in, with_zeroed, zeroing}
 use Rattle.store_model.specs.Phases.{has_commit, marking, Phase, phases_of, Replacing, todo_of}
 use Rattle.store_model.specs.Rows.{Row}
 use Rattle.store_model.specs.StoreState.{ForCommand, ForInsert, JobState, StoreState}
-use Rattle.run_work.specs.Reading.{frozen_set, logged_at, row_at}
+use Rattle.run_work.specs.Reading.{frozen_set, logged_row, row_at}
 use Rattle.run_work.specs.RunState.{AtInJob, MetadataCommand}
 use Rattle.run_work.specs.ChannelMoves.{moved_row}
 use Rattle.run_work.specs.ServingMoves.{BeginInsertMove, BeginJobMove, BeginsFor, for_message, LoseInsertMove}
@@ -230,7 +230,7 @@ module _ (p q : StoreState) (d : RunMessages) (held : Option Msg) (waiting : Lis
                   claim = None;
                 }) asks) (ap (λ v. run_state_of v f) t.next)
                 ∙ ap (λ b. record (moved_row (run_state_of p f) t.posted.channel
-                (logged_at (MetadataCommand ∷ map (command_in_run p.super) t.posted.rest) AtInJob)) {
+                (logged_row (MetadataCommand ∷ map (command_in_run p.super) t.posted.rest) AtInJob)) {
                   job = Some (job_in_run (seen_job todo));
                   frozen = b;
                 }) (frozen_same p.frozen t.changes.freeze);

@@ -18,7 +18,7 @@ use Rattle.store_model.specs.Shown.{fixed_of}
 use Rattle.store_model.specs.StoreState.{going_on, JobState, live_of, shown}
 use Rattle.store_model.specs.StoreState.{StoreState, waiting}
 use Rattle.run_work.specs.JobMoves.{CommitMove, ReplacesBlob}
-use Rattle.run_work.specs.Reading.{job_left, logged_at}
+use Rattle.run_work.specs.Reading.{job_left_in_run, logged_row}
 use Rattle.run_work.specs.RunState.{AtDecided, MetadataCommand}
 use Rattle.run_work.specs.ChannelMoves.{moved_row}
 use Rattle.run_moves.specs.JobTurns.{IsJobMoveOf}
@@ -105,7 +105,7 @@ module _ (p q : StoreState) (d : RunMessages) (first : Volumes) (well : RunsWell
               (frozen_behind p.frozen job t.running.rest) d) {
                 rows = r;
               }) (rows_moved p.super p.rows t.served.channel (decided_row t.served.rest))
-              ∙ ap (λ j. record (moved_row (run_state_of p d) t.served.channel (logged_at commands AtDecided)) {
+              ∙ ap (λ j. record (moved_row (run_state_of p d) t.served.channel (logged_row commands AtDecided)) {
                 blobs = blobs_in_run base_new generations_new;
                 finds = finds;
                 job = j;
@@ -113,10 +113,10 @@ module _ (p q : StoreState) (d : RunMessages) (first : Volumes) (well : RunsWell
               }) (goes_on (record job { claimed = [] }) t.running.rest [] None
               (ap (λ s. waiting s t.running.rest) t.served.serves
               ∙ ap (λ b. if b then Some t.served.channel else None) does.1))
-              ∙ ap (λ f. record (moved_row (run_state_of p d) t.served.channel (logged_at commands AtDecided)) {
+              ∙ ap (λ f. record (moved_row (run_state_of p d) t.served.channel (logged_row commands AtDecided)) {
                 blobs = blobs_in_run base_new generations_new;
                 finds = finds;
-                job = job_left (record (job_in_run job) { waits = None }) rest;
+                job = job_left_in_run (record (job_in_run job) { waits = None }) rest;
                 frozen = f;
               }) (frozen_on p.frozen job t.running.rest);
         }

@@ -21,7 +21,7 @@ use Rattle.store_model.specs.Rows.{Row, Rows, Stage, with_row}
 use Rattle.store_model.specs.Shown.{fixed_of}
 use Rattle.store_model.specs.StoreState.{ForInsert, JobState, live_of, shown, StoreState, waiting}
 use Rattle.store_model.specs.Turning.{stopped_now}
-use Rattle.run_work.specs.Reading.{logged_at, with_row_in_run, is_in_use}
+use Rattle.run_work.specs.Reading.{logged_row, with_row_in_run, is_in_use}
 use Rattle.run_work.specs.RunState.{AtDecided, AtIdle, RowsInRun}
 use Rattle.run_work.specs.ServingMoves.{EndsFillIn, for_filled, in_fill, in_insert, the_filled, the_taken_over}
 use Rattle.run_work.specs.ServingMoves.{WorksFor}
@@ -90,16 +90,16 @@ module _ (p q : StoreState) (d : RunMessages) (stands : FillStands p) (message :
 
   own_seen : (stage : Stage)
       → row_in_run p.super (record { left = (p.rows fill_row).left; stage = stage; claim = None })
-      ≡ logged_at [] (stage_in_run stage)
-  own_seen stage = ap (λ l. logged_at (map (command_in_run p.super) l) (stage_in_run stage)) stands.left
+      ≡ logged_row [] (stage_in_run stage)
+  own_seen stage = ap (λ l. logged_row (map (command_in_run p.super) l) (stage_in_run stage)) stands.left
 
   rows_seen : (ch : ℕ) (rest : List Command) (stage : Stage) → ch ≢ fill_row
       → rows_in_run p.super (rows_behind fill_row stage ch rest)
       ≡ with_row_in_run (with_row_in_run (rows_in_run p.super p.rows) ch
-      (logged_at (map (command_in_run p.super) rest) AtDecided)) fill_row (logged_at [] (stage_in_run stage))
+      (logged_row (map (command_in_run p.super) rest) AtDecided)) fill_row (logged_row [] (stage_in_run stage))
   rows_seen ch rest stage apart =
       rows_moved p.super _ ch (decided_row rest)
-      ∙ ap (λ r. with_row_in_run r ch (logged_at (map (command_in_run p.super) rest) AtDecided))
+      ∙ ap (λ r. with_row_in_run r ch (logged_row (map (command_in_run p.super) rest) AtDecided))
       (rows_moved p.super p.rows fill_row _
       ∙ ap (with_row_in_run (rows_in_run p.super p.rows) fill_row) (own_seen stage))
       ∙ rows_swapped (rows_in_run p.super p.rows) ch fill_row apart _ _

@@ -20,7 +20,7 @@ use Rattle.store_model.specs.Maps.{Metas}
 use Rattle.store_model.specs.Rows.{fill_row, Row}
 use Rattle.store_model.specs.StoreState.{StoreState}
 use Rattle.run_work.specs.ChannelMoves.{by_claim, for_fill}
-use Rattle.run_work.specs.Reading.{logged_at, is_in_use}
+use Rattle.run_work.specs.Reading.{logged_row, is_in_use}
 use Rattle.run_work.specs.RunState.{AtCopying, AtIdle}
 use Rattle.run_work.specs.ServingMoves.{the_own}
 use Rattle.run_work.specs.Steps.{by_begin_insert, by_close, by_lose_insert, by_own_row, CloseStep, FillStep}
@@ -152,6 +152,6 @@ closing_moves p q d stands no_job none used t = record {
     idle = no_job;
     none_left = ap (map (command_in_run p.super)) stands.left;
     next = changes_row p q d fill_row p.device.reads _ _ p.job p.frozen
-        (ap (λ l. logged_at (map (command_in_run p.super) l) AtIdle) stands.left) (ap (λ v. run_state_of v d) t.next);
+        (ap (λ l. logged_row (map (command_in_run p.super) l) AtIdle) stands.left) (ap (λ v. run_state_of v d) t.next);
   });
 }

@@ -12,7 +12,7 @@ use Rattle.store_model.specs.Rows.{InJob, Row, with_row}
 use Rattle.store_model.specs.StoreState.{ForCommand, ForInsert, ForRepair, going_on, JobState, Service, StoreState}
 use Rattle.store_model.specs.StoreState.{waiting}
 use Rattle.run_work.specs.JobMoves.{DropMove, FailMove, PageMove}
-use Rattle.run_work.specs.Reading.{frozen_left, frozen_set, job_left}
+use Rattle.run_work.specs.Reading.{frozen_left, frozen_set, job_left_in_run}
 use Rattle.run_work.specs.RunState.{MetadataCommand, PagePhase}
 use Rattle.run_moves.specs.JobTurns.{FailingTurns, HasTurnsLeft, IsJobMove, IsJobMoveOf, PageTurns}
 use Rattle.run_moves.specs.Projection.{command_in_run, job_in_run, phase_in_run, phases_in_run, run_by, run_state_of}
@@ -34,7 +34,7 @@ waits_on ForRepair phase rest same = refl
 pub goes_on : (job : JobState) (rest : List Phase) (written : List ℕ) (waits : Option ℕ)
     → waiting job.serves rest ≡ waits
     → option_map job_in_run (going_on job written rest)
-    ≡ job_left (record (job_in_run job) { waits = waits }) (phases_in_run job.serves rest)
+    ≡ job_left_in_run (record (job_in_run job) { waits = waits }) (phases_in_run job.serves rest)
 goes_on job [] written waits same = refl
 goes_on job (x ∷ xs) written waits same =
     ap (λ o. Some (record { phases = phases_in_run job.serves (x ∷ xs); waits = o; freeze = job.freeze })) same
@@ -91,7 +91,7 @@ module _ (p q : StoreState) (d : RunMessages) where
           (goes_on job rest written (waiting job.serves job.todo)
           (sym (ap (waiting job.serves) next ∙ waits_on job.serves phase rest same)))
           ∙ ap (λ f. record (run_state_of p d) {
-            job = job_left (job_in_run job) (phases_in_run job.serves rest);
+            job = job_left_in_run (job_in_run job) (phases_in_run job.serves rest);
             frozen = f;
           }) (frozen_on p.frozen job rest);
     }

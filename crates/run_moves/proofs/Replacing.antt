@@ -10,7 +10,7 @@ use Rattle.store_model.specs.Cases.Insert.{Inserts}
 use Rattle.store_model.specs.Cases.InsertEnd.{InsertEnds}
 use Rattle.store_model.specs.Claiming.{stage_behind}
 use Rattle.store_model.specs.Inserting.{with_slot}
-use Rattle.store_model.specs.Jobs.{gained_by, JobStands, Lays, Puts, PutsClaim}
+use Rattle.store_model.specs.Jobs.{gained_by, JobStands, Lays, IsLeftOfInsert, PutsClaim}
 use Rattle.store_model.specs.Maps.{Metas, with_entry}
 use Rattle.store_model.specs.Phases.{Phase, Replaces}
 use Rattle.store_model.specs.Rows.{with_row}
@@ -56,7 +56,7 @@ module _ (p q : StoreState) (d : RunMessages) (first : Volumes) (well : RunsWell
     insert_stands = well.job inserting t.running.is
 
     puts : PutsClaim p t.inserting.row t.replacing
-    puts = (subst (Puts p t.inserting.row) t.running.next
+    puts = (subst (IsLeftOfInsert p t.inserting.row) t.running.next
         (insert_stands.inserts t.inserting.row t.inserting.serves).puts).0
 
     laid : Lays p.super p.base p.chains (gained_by p.rows inserting) inserting.written

@@ -13,7 +13,7 @@ use Rattle.store_model.specs.RunInvariant.{RunsWell}
 use Rattle.store_model.specs.StoreState.{ForCommand, ForInsert, ForRepair, going_on, JobState, Service, StoreState}
 use Rattle.store_model.specs.StoreState.{waiting}
 use Rattle.run_work.specs.JobMoves.{ReplaceMove, ReplacesBlob}
-use Rattle.run_work.specs.Reading.{job_left}
+use Rattle.run_work.specs.Reading.{job_left_in_run}
 use Rattle.run_work.specs.RunState.{ReplacementPhase}
 use Rattle.run_moves.specs.JobTurns.{IsJobMove}
 use Rattle.run_moves.specs.Projection.{blobs_in_run, heads_found, job_in_run, phases_in_run, replacement_for}
@@ -87,7 +87,7 @@ module _ (p q : StoreState) (d : RunMessages) (first : Volumes) (well : RunsWell
             ∙ ap (λ f. record (run_state_of p d) {
               blobs = blobs_in_run base_new generations_new;
               finds = finds;
-              job = job_left (job_in_run job) rest;
+              job = job_left_in_run (job_in_run job) rest;
               frozen = f;
             }) (frozen_on p.frozen job t.running.rest);
       }

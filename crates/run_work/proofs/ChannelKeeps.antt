@@ -5,7 +5,7 @@ use Rattle.std.proofs.lemmas.Bool.Decides.{eqb_tells, nat_tests}
 use Rattle.volume_model.specs.declared.reply.Msg.{Msg}
 use Rattle.run_work.specs.RunState.{AtClaiming, AtCopying, AtEnded, AtIdle, AtPosted, RowInRun, RunSizes, RunState}
 use Rattle.run_work.specs.RunState.{StageInRun}
-use Rattle.run_work.specs.Reading.{is_there, logged_at, row_at, stage_of_copy, unclaimed_at}
+use Rattle.run_work.specs.Reading.{is_there, logged_row, row_at, stage_of_copy, unclaimed_at}
 use Rattle.run_work.specs.Work.{one_if}
 use Rattle.run_work.specs.ChannelMoves.{asking, by_claim, by_copy, by_empty, by_end, by_filled, by_log, by_lose}
 use Rattle.run_work.specs.ChannelMoves.{by_post, by_row, by_send, by_settle, ChannelMove, copied, for_fill, for_write}
@@ -111,7 +111,7 @@ module _ (z : RunSizes) where
 
   logged : (w v : RunState) (ch : ℕ) → RunFacts w → LogMove z w ch v → RunFacts v
   logged w v ch f c =
-      let row : RowInRun = logged_at c.commands AtIdle in
+      let row : RowInRun = logged_row c.commands AtIdle in
       subst RunFacts (sym c.next)
       (unposts_row w (record (moved_row w ch row) { frozen = c.frozen }) ch row refl f
       (λ h is. f.frozen h (c.fewer h is)) (λ k ne s. s) (λ is. absurd (cc is)) (λ k ne. refl)
@@ -167,7 +167,7 @@ module _ (z : RunSizes) where
       (λ n is. absurd (cc is), λ is. absurd (cc is)))
   channel_keeps w v ch f (by_end c) =
       subst RunFacts (sym c.next)
-      (calm w ch (logged_at [] AtEnded) f (λ n is. absurd (cc (sym is ∙ c.stage)))
+      (calm w ch (logged_row [] AtEnded) f (λ n is. absurd (cc (sym is ∙ c.stage)))
       (λ n is. absurd (cc is), λ is. absurd (cc is)))
   channel_keeps w v ch f (by_log c) = logged w v ch f c
   channel_keeps w v ch f (by_send c) = sent w v ch f c

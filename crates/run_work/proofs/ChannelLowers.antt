@@ -6,7 +6,7 @@ use Rattle.std.proofs.lemmas.Bool.Decides.{eqb_tells}
 use Rattle.run_work.specs.RunState.{AtClaiming, AtCopying, AtDecided, AtEnded, AtIdle, AtInJob, AtPosted, AtReady}
 use Rattle.run_work.specs.RunState.{BlobInRun, BlobsInRun, ClaimInRun, CommandInRun, FoundHeads, PageWrite, RowInRun}
 use Rattle.run_work.specs.RunState.{RunSizes, RunState, StageInRun}
-use Rattle.run_work.specs.Reading.{has_generation, is_empty, is_filled, is_there, logged_at, row_at, slot_found}
+use Rattle.run_work.specs.Reading.{has_generation, is_empty, is_filled, is_there, logged_row, row_at, slot_found}
 use Rattle.run_work.specs.Reading.{slot_in, stage_of_copy, unclaimed_at}
 use Rattle.run_work.specs.Work.{again_if, base_work, command_work, is_doomed, is_filled_now, one_if, row_work, to_pay}
 use Rattle.run_work.specs.Work.{unsent_work}
@@ -176,7 +176,7 @@ module _ (z : RunSizes) where
       let old = work_of z w.blobs w.finds row [] AtIdle row.claim c.left c.stage refl in
       let less = ended_row w.blobs w.finds row.claim in
       subst (λ x. base_work z x < base_work z w) (sym c.next)
-      (lowers_row z w ch (logged_at [] AtEnded) low (omega (arith, old, less)))
+      (lowers_row z w ch (logged_row [] AtEnded) low (omega (arith, old, less)))
 
   -- a row that logs itself pays with all its commands
   pays_all : (l : List CommandInRun) (s : StageInRun) → logs_itself s ≡ true → to_pay l s ≡ length l
@@ -192,7 +192,7 @@ module _ (z : RunSizes) where
   logs : (w v : RunState) (ch : ℕ) → ch < z.rows → LogMove z w ch v → base_work z v < base_work z w
   logs w v ch low c =
       let row = w.rows ch in
-      let next : RowInRun = logged_at c.commands AtIdle in
+      let next : RowInRun = logged_row c.commands AtIdle in
       let counts : command_work z * to_pay row.left row.stage ≡ command_work z * suc (length c.commands) =
       ap (λ n. command_work z * n) (pays_all row.left row.stage c.stage ∙ ap length c.left) in
       let step = times_suc (command_work z) (length c.commands) in

@@ -1,7 +1,7 @@
 -- Each move of a job's turns keeps what every state of a run has.
 use Rattle.std.proofs.Common.{◌≢◌, ◌≡◌, ℕ, Some, None, List, [], ◌∷◌, refl, sym, ◌∙◌, ap, subst}
 use Rattle.run_work.specs.RunState.{AtDecided, AtInJob, AtPosted, JobInRun, PhaseInRun, RowInRun, RunSizes, RunState}
-use Rattle.run_work.specs.Reading.{frozen_left, job_left, logged_at, stage_after_insert, unclaimed_at}
+use Rattle.run_work.specs.Reading.{frozen_left, job_left_in_run, logged_row, stage_after_insert, unclaimed_at}
 use Rattle.run_work.specs.ChannelMoves.{moved_row}
 use Rattle.run_work.specs.ServingMoves.{WaitsInJob}
 use Rattle.run_work.specs.JobMoves.{CommitMove, DropMove, FailMove, InsertMove, PageMove, ReplaceMove, WinMove}
@@ -13,7 +13,8 @@ module _ (z : RunSizes) where
   -- a page is written
   pub written : (w v : RunState) → RunFacts w → PageMove z w v → RunFacts v
   written w v f c =
-      let next : RunState = record w { job = job_left c.job c.rest; frozen = frozen_left w.frozen c.job c.rest } in
+      let next : RunState = record w { job = job_left_in_run c.job c.rest; frozen = frozen_left w.frozen c.job c.rest }
+      in
       subst RunFacts (sym c.next)
       (same_rows w next refl f (frozen_on w next c.job c.job.waits c.rest f c.runs refl)
       (waits_on w next c.job c.rest c.runs refl c.ends) (λ k. refl) (λ m way. way))
@@ -24,7 +25,7 @@ module _ (z : RunSizes) where
       let next : RunState = record w {
         blobs = c.blobs;
         finds = c.finds;
-        job = job_left c.job c.rest;
+        job = job_left_in_run c.job c.rest;
         frozen = frozen_left w.frozen c.job c.rest;
       } in
       subst RunFacts (sym c.next)
@@ -33,7 +34,7 @@ module _ (z : RunSizes) where
 
   -- the row of an insert waits on, or is decided
   row_waits : (w v : RunState) (j : JobInRun) (ch : ℕ) (rest : List PhaseInRun) → j.waits ≡ Some ch
-      → v.job ≡ job_left j rest → stage_after_insert rest ≡ AtInJob → WaitsInJob v ch
+      → v.job ≡ job_left_in_run j rest → stage_after_insert rest ≡ AtInJob → WaitsInJob v ch
   row_waits w v j ch [] waits left is = absurd (cc is)
   row_waits w v j ch (x ∷ xs) waits left is = (record j { phases = x ∷ xs }, left, waits)
 
@@ -46,7 +47,7 @@ module _ (z : RunSizes) where
   pub inserted : (w v : RunState) (ch : ℕ) → RunFacts w → InsertMove z w ch v → RunFacts v
   inserted w v ch f c =
       let row : RowInRun = unclaimed_at (w.rows ch) (stage_after_insert c.rest) in
-      let next : RunState = record (moved_row w ch row) { blobs = c.blobs; job = job_left c.job c.rest } in
+      let next : RunState = record (moved_row w ch row) { blobs = c.blobs; job = job_left_in_run c.job c.rest } in
       subst RunFacts (sym c.next)
       (unposts_row w next ch row refl f (λ h is. absurd (unfrozen w c.job f c.runs c.thaws h is))
       (λ k ne s. absurd (ne (only_row w c.job ch k c.runs c.waits s)))
@@ -66,11 +67,11 @@ module _ (z : RunSizes) where
   -- the commit
   pub committed : (w v : RunState) (ch : ℕ) → RunFacts w → CommitMove z w ch v → RunFacts v
   committed w v ch f c =
-      let row : RowInRun = logged_at c.commands AtDecided in
+      let row : RowInRun = logged_row c.commands AtDecided in
       let next : RunState = record (moved_row w ch row) {
         blobs = c.blobs;
         finds = c.finds;
-        job = job_left (record c.job { waits = None }) c.rest;
+        job = job_left_in_run (record c.job { waits = None }) c.rest;
         frozen = frozen_left w.frozen c.job c.rest;
       } in
       subst RunFacts (sym c.next)
@@ -81,7 +82,7 @@ module _ (z : RunSizes) where
   -- a failure for which a row waits
   pub failed : (w v : RunState) (ch : ℕ) → RunFacts w → FailMove z w ch v → RunFacts v
   failed w v ch f c =
-      let row : RowInRun = logged_at c.commands AtDecided in
+      let row : RowInRun = logged_row c.commands AtDecided in
       subst RunFacts (sym c.next)
       (unposts_row w (record (moved_row w ch row) { job = None; frozen = c.frozen }) ch row refl f
       (λ h is. absurd (cc (sym is ∙ c.thaws h))) (λ k ne s. absurd (ne (only_row w c.job ch k c.runs c.waits s)))

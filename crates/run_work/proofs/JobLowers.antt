@@ -4,7 +4,7 @@ use Rattle.std.proofs.Common.{false, List, [], ◌∷◌, length, refl, sym, ◌
 use Rattle.run_work.specs.RunState.{AtDecided, AtInJob, BlobsInRun, ClaimInRun, CommandInRun, CommitPhase, DeviceFlush}
 use Rattle.run_work.specs.RunState.{FoundHeads, InsertPhase, JobInRun, MetadataCommand, PagePhase, PageRead, PageWrite}
 use Rattle.run_work.specs.RunState.{PhaseInRun, ReplacementPhase, RowInRun, RunSizes, RunState}
-use Rattle.run_work.specs.Reading.{asks_metadata, job_left, logged_at, slot_at, slot_in, stage_after_insert}
+use Rattle.run_work.specs.Reading.{asks_metadata, job_left_in_run, logged_row, slot_at, slot_in, stage_after_insert}
 use Rattle.run_work.specs.Reading.{unclaimed_at, with_filled}
 use Rattle.run_work.specs.Work.{again_work, base_work, command_work, commit_is_left, decision_is_left, empties}
 use Rattle.run_work.specs.Work.{empty_in, empty_slots, job_work, replacement_work, replacements_in, row_behind}
@@ -24,7 +24,7 @@ module _ (z : RunSizes) where
 
   -- what goes on has no more work than the job with these phases
   goes_on : (j : JobInRun) (rest : List PhaseInRun)
-      → job_work z (job_left j rest) ≤ job_work z (Some (record j { phases = rest }))
+      → job_work z (job_left_in_run j rest) ≤ job_work z (Some (record j { phases = rest }))
   goes_on j [] = omega arith
   goes_on j (x ∷ xs) = omega arith
 
@@ -76,7 +76,7 @@ module _ (z : RunSizes) where
   -- the row and the job behind an insert
   inserted : (blobs : BlobsInRun) (finds : FoundHeads) (row : RowInRun) (j : JobInRun) (rest : List PhaseInRun)
       → row.stage ≡ AtInJob → asks_metadata row.left ≡ false
-      → job_work z (job_left j rest) + row_work z blobs finds (unclaimed_at row (stage_after_insert rest))
+      → job_work z (job_left_in_run j rest) + row_work z blobs finds (unclaimed_at row (stage_after_insert rest))
       < length rest + replacements_in rest * replacement_work z + 2
       + command_work z * to_pay row.left row.stage + again_work z
   inserted blobs finds row j [] stage plain =
@@ -184,7 +184,7 @@ module _ (z : RunSizes) where
   -- the commit
   pub commits : (w v : RunState) (ch : ℕ) → ch < z.rows → CommitMove z w ch v → base_work z v < base_work z w
   commits w v ch low c =
-      let next : RowInRun = logged_at c.commands AtDecided in
+      let next : RowInRun = logged_row c.commands AtDecided in
       let was = ap (job_work z) c.runs in
       let here = job_of c.job (CommitPhase ∷ c.rest) c.here in
       let less = commit_done c.job c.rest in
@@ -225,7 +225,7 @@ module _ (z : RunSizes) where
   pub fails : (w v : RunState) (ch : ℕ) → ch < z.rows → FailMove z w ch v → base_work z v < base_work z w
   fails w v ch low c =
       let row = w.rows ch in
-      let next : RowInRun = logged_at c.commands AtDecided in
+      let next : RowInRun = logged_row c.commands AtDecided in
       let was = ap (job_work z) c.runs in
       let old = work_of z w.blobs w.finds row (c.command ∷ c.commands) AtInJob row.claim c.left c.stage refl in
       let less = failed w.blobs w.finds c.command c.commands row.claim c.job c.unlogged in

@@ -5,7 +5,7 @@ use Rattle.std.proofs.lemmas.Bool.Decides.{nat_tests}
 use Rattle.volume_model.specs.declared.reply.Msg.{Msg}
 use Rattle.run_work.specs.RunState.{AtClaiming, AtCopying, AtDecided, AtEnded, AtIdle, AtInJob, AtPosted, AtReady}
 use Rattle.run_work.specs.RunState.{RunSizes, RunState, StageInRun}
-use Rattle.run_work.specs.Reading.{logged_at, unclaimed_at}
+use Rattle.run_work.specs.Reading.{logged_row, unclaimed_at}
 use Rattle.run_work.specs.Work.{one_if}
 use Rattle.run_work.specs.RunFacts.{awaited, in_queue, is_filled_for, is_from, is_held, is_waiting, IsAmongThese}
 use Rattle.run_work.specs.RunFacts.{IsOnTheWay, not_sent, RunFacts}
@@ -54,7 +54,8 @@ module _ (z : RunSizes) where
       c.next
   one_keeps w v f (by_begin_insert ch low c) = begun_insert z w v ch f c
   one_keeps w v f (by_answer ch low c) =
-      decided z w v ch c.serial (logged_at c.commands AtDecided) c.finds c.held c.waiting f c.serves c.stage refl c.next
+      decided z w v ch c.serial (logged_row c.commands AtDecided) c.finds c.held c.waiting f c.serves c.stage refl
+      c.next
   one_keeps w v f (by_begin_job ch low c) = begun_job z w v ch f c
   one_keeps w v f (by_log_fill ch low c) = logged_fill z w v ch f c
   one_keeps w v f (by_close c) = closed z w v f c

@@ -9,7 +9,7 @@ use Rattle.run_work.specs.Steps.{by_page, by_replace, by_take, by_win, can_at, c
 use Rattle.run_work.specs.Steps.{has_to_wait, is_free_at, MetadataMove, OneMove, queued_behind, StepOf}
 use Rattle.run_work.specs.RunState.{AtClaiming, AtCopying, AtDecided, AtEnded, AtIdle, AtInJob, AtPosted}
 use Rattle.run_work.specs.RunState.{MetadataCommand, RowInRun, RowsInRun, RunSizes, RunState, StageInRun}
-use Rattle.run_work.specs.Reading.{is_in_use, logged_at, row_at, stage_after_insert, stage_of_copy, unclaimed_at}
+use Rattle.run_work.specs.Reading.{is_in_use, logged_row, row_at, stage_after_insert, stage_of_copy, unclaimed_at}
 use Rattle.run_work.specs.Reading.{with_row_in_run}
 use Rattle.run_work.specs.Work.{work}
 use Rattle.run_work.specs.ChannelMoves.{by_claim, by_copy, by_empty, by_end, by_filled, by_log, by_lose, by_post}
@@ -53,8 +53,8 @@ module _ (z : RunSizes) where
   stays w v ch (by_empty c) =
       (row_at (w.rows ch) AtClaiming, inl (ap (λ x. x.rows) c.next), ap (λ x. x.fill) c.next)
   stays w v ch (by_filled c) = (row_at (w.rows ch) AtIdle, inl (ap (λ x. x.rows) c.next), ap (λ x. x.fill) c.next)
-  stays w v ch (by_end c) = (logged_at [] AtEnded, inl (ap (λ x. x.rows) c.next), ap (λ x. x.fill) c.next)
-  stays w v ch (by_log c) = (logged_at c.commands AtIdle, inl (ap (λ x. x.rows) c.next), ap (λ x. x.fill) c.next)
+  stays w v ch (by_end c) = (logged_row [] AtEnded, inl (ap (λ x. x.rows) c.next), ap (λ x. x.fill) c.next)
+  stays w v ch (by_log c) = (logged_row c.commands AtIdle, inl (ap (λ x. x.rows) c.next), ap (λ x. x.fill) c.next)
   stays w v ch (by_send c) = (w.rows ch, inr (ap (λ x. x.rows) c.next), ap (λ x. x.fill) c.next)
 
   apart : (ch : ℕ) → ch < 16 → ch ≢ 16
@@ -79,7 +79,7 @@ module _ (z : RunSizes) where
   begins_job w v ch enough low c =
       let stays_there : v.rows 16 ≡ w.rows 16 =
       ap (λ x. x.rows 16) c.next
-      ∙ row_there w.rows ch (logged_at (MetadataCommand ∷ c.commands) AtInJob) 16 (λ is. apart ch low (sym is)) in
+      ∙ row_there w.rows ch (logged_row (MetadataCommand ∷ c.commands) AtInJob) 16 (λ is. apart ch low (sym is)) in
       with_own z w v (serving.begins_job z w v ch (omega (arith, low, enough)) c) (elim c.begins [
         | for_message same serves ↦ same_own z w v (ap (λ x. x.fill) c.next ∙ same) stays_there
         | for_filled m fills channel unused held waiting none ↦
@@ -102,7 +102,7 @@ module _ (z : RunSizes) where
       (inr (used_at (w.rows ch).stage (AtPosted c.serial) c.stage refl)))
   one_lowers w v enough (by_answer ch low c) =
       with_own z w v (serving.answers z w v ch (omega (arith, low, enough)) c)
-      (row_own z w v ch (logged_at c.commands AtDecided) (ap (λ x. x.rows) c.next) (ap (λ x. x.fill) c.next)
+      (row_own z w v ch (logged_row c.commands AtDecided) (ap (λ x. x.rows) c.next) (ap (λ x. x.fill) c.next)
       (inl (apart ch low)))
   one_lowers w v enough (by_begin_job ch low c) = begins_job w v ch enough low c
   one_lowers w v enough (by_log_fill ch low c) =
@@ -126,11 +126,11 @@ module _ (z : RunSizes) where
       (same_own z w v (ap (λ x. x.fill) c.next) (ap (λ x. x.rows 16) c.next))
   one_lowers w v enough (by_commit ch low c) =
       with_own z w v (job.commits z w v ch (omega (arith, low, enough)) c)
-      (row_own z w v ch (logged_at c.commands AtDecided) (ap (λ x. x.rows) c.next) (ap (λ x. x.fill) c.next)
+      (row_own z w v ch (logged_row c.commands AtDecided) (ap (λ x. x.rows) c.next) (ap (λ x. x.fill) c.next)
       (inl (apart ch low)))
   one_lowers w v enough (by_fail ch low c) =
       with_own z w v (job.fails z w v ch (omega (arith, low, enough)) c)
-      (row_own z w v ch (logged_at c.commands AtDecided) (ap (λ x. x.rows) c.next) (ap (λ x. x.fill) c.next)
+      (row_own z w v ch (logged_row c.commands AtDecided) (ap (λ x. x.rows) c.next) (ap (λ x. x.fill) c.next)
       (inl (apart ch low)))
   one_lowers w v enough (by_drop c) =
       with_own z w v (job.drops z w v c)

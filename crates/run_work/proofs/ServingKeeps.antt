@@ -5,7 +5,7 @@ use Rattle.std.proofs.lemmas.Bool.Decides.{eqb_tells}
 use Rattle.volume_model.specs.declared.reply.Msg.{Msg}
 use Rattle.run_work.specs.RunState.{AtClaiming, AtCopying, AtDecided, AtEnded, AtIdle, AtInJob, AtPosted, AtReady}
 use Rattle.run_work.specs.RunState.{FoundHeads, JobInRun, MetadataCommand, RowInRun, RunSizes, RunState, StageInRun}
-use Rattle.run_work.specs.Reading.{frozen_set, is_there, logged_at, row_at}
+use Rattle.run_work.specs.Reading.{frozen_set, is_there, logged_row, row_at}
 use Rattle.run_work.specs.Work.{one_if}
 use Rattle.run_work.specs.ChannelMoves.{moved_row}
 use Rattle.run_work.specs.ServingMoves.{BeginInsertMove, BeginJobMove, BeginsFor, CloseMove, for_filled, for_message}
@@ -123,7 +123,7 @@ module _ (z : RunSizes) where
   -- the job of a command begins
   pub begun_job : (w v : RunState) (ch : ℕ) → RunFacts w → BeginJobMove z w ch v → RunFacts v
   begun_job w v ch f c =
-      let row : RowInRun = logged_at (MetadataCommand ∷ c.commands) AtInJob in
+      let row : RowInRun = logged_row (MetadataCommand ∷ c.commands) AtInJob in
       let next : RunState = record (moved_row w ch row) {
         job = Some c.job;
         frozen = frozen_set w.frozen c.job.freeze true;
@@ -197,8 +197,8 @@ module _ (z : RunSizes) where
   -- the command that slots are filled for is logged
   pub logged_fill : (w v : RunState) (ch : ℕ) → RunFacts w → LogFillMove z w ch v → RunFacts v
   logged_fill w v ch f c =
-      let row : RowInRun = logged_at c.commands AtDecided in
-      let over : RowInRun = logged_at [] c.own in
+      let row : RowInRun = logged_row c.commands AtDecided in
+      let over : RowInRun = logged_row [] c.own in
       let mid : RunState = record (moved_row w ch row) { held = c.held; fill = None } in
       let rest = only_worked w ch c.serial c.message c.held f c.works c.channel c.stage in
       let first : RunFacts mid = unposts_row w mid ch row refl f f.frozen (λ k ne s. s) (λ is. absurd (cc is))
@@ -226,7 +226,7 @@ module _ (z : RunSizes) where
   -- the own row waits again
   pub closed : (w v : RunState) → RunFacts w → CloseMove z w v → RunFacts v
   closed w v f c =
-      let row : RowInRun = logged_at [] AtIdle in
+      let row : RowInRun = logged_row [] AtIdle in
       subst RunFacts (sym c.next)
       (unposts_row w (moved_row w 16 row) 16 row refl f f.frozen (λ k ne s. s) (λ is. absurd (cc is)) (λ k ne. refl)
       (λ n is. absurd (cc is)) (f.counted 16 ∙ at_own (w.rows 16).stage) (λ m way. way))

@@ -6,7 +6,7 @@ use Rattle.volume_model.specs.declared.reply.Msg.{Msg}
 use Rattle.run_work.specs.RunState.{AtDecided, AtIdle, AtInJob, AtPosted, BlobsInRun, ClaimInRun, CommandInRun}
 use Rattle.run_work.specs.RunState.{DeviceFlush, FoundHeads, JobInRun, MetadataCommand, PageRead, PageWrite, RowInRun}
 use Rattle.run_work.specs.RunState.{RunSizes, RunState, StageInRun}
-use Rattle.run_work.specs.Reading.{is_in_use, logged_at, row_at, unclaimed_at, with_row_in_run}
+use Rattle.run_work.specs.Reading.{is_in_use, logged_row, row_at, unclaimed_at, with_row_in_run}
 use Rattle.run_work.specs.Work.{again_if, again_work, base_work, command_work, decision_is_left, held_work, job_work}
 use Rattle.run_work.specs.Work.{own_work, replacement_work, replacements_in, row_behind, row_work, to_end, to_pay}
 use Rattle.run_work.specs.Work.{try_work, work}
@@ -120,7 +120,7 @@ module _ (z : RunSizes) where
   -- a command is logged
   pub answers : (w v : RunState) (ch : ℕ) → ch < z.rows → AnswerMove z w ch v → base_work z v < base_work z w
   answers w v ch low c =
-      let next : RowInRun = logged_at c.commands AtDecided in
+      let next : RowInRun = logged_row c.commands AtDecided in
       let pays = posted_pays w ch c.serial c.command c.commands c.left c.stage in
       let all = any_row z w.blobs w.blobs w.finds c.finds w.rows ch next low in
       let least = serves_least w ch c.held c.waiting c.serves in
@@ -137,7 +137,7 @@ module _ (z : RunSizes) where
   -- the job of a command begins
   pub begins_job : (w v : RunState) (ch : ℕ) → ch < z.rows → BeginJobMove z w ch v → base_work z v < base_work z w
   begins_job w v ch low c =
-      let next : RowInRun = logged_at (MetadataCommand ∷ c.commands) AtInJob in
+      let next : RowInRun = logged_row (MetadataCommand ∷ c.commands) AtInJob in
       let pays = posted_pays w ch c.serial MetadataCommand c.commands c.left c.stage in
       let all = one_row z w.blobs w.finds w.rows ch next low in
       let least : held_work z c.held + length c.waiting ≤ held_work z w.held + length w.waiting = elim c.begins [
@@ -161,11 +161,11 @@ module _ (z : RunSizes) where
       subst (λ x. base_work z x < base_work z w) (sym c.next) (omega (arith, less))
 
   own_most : (blobs : BlobsInRun) (finds : FoundHeads) (own : StageInRun) → (own ≡ AtIdle) ⊎ (own ≡ AtDecided)
-      → row_work z blobs finds (logged_at [] own) ≤ try_work z + 1
+      → row_work z blobs finds (logged_row [] own) ≤ try_work z + 1
   own_most blobs finds own (inl is) =
-      let all = ap (λ s. row_work z blobs finds (logged_at [] s)) is in omega (arith, all)
+      let all = ap (λ s. row_work z blobs finds (logged_row [] s)) is in omega (arith, all)
   own_most blobs finds own (inr is) =
-      let all = ap (λ s. row_work z blobs finds (logged_at [] s)) is in omega (arith, all)
+      let all = ap (λ s. row_work z blobs finds (logged_row [] s)) is in omega (arith, all)
 
   -- no job runs behind the logging of a fill's command
   job_least : (w : RunState) (job : Option JobInRun) (frozen : ℕ → Bool) → EndsFillIn w job frozen
@@ -183,8 +183,8 @@ module _ (z : RunSizes) where
   pub logs_fill : (w v : RunState) (ch : ℕ) → ch ≢ 16 → ch < z.rows → 16 < z.rows → LogFillMove z w ch v
       → base_work z v + (try_work z + 1) < base_work z w
   logs_fill w v ch ne low enough c =
-      let next : RowInRun = logged_at c.commands AtDecided in
-      let over : RowInRun = logged_at [] c.own in
+      let next : RowInRun = logged_row c.commands AtDecided in
+      let over : RowInRun = logged_row [] c.own in
       let pays = posted_pays w ch c.serial c.command c.commands c.left c.stage in
       let first = any_row z w.blobs w.blobs w.finds c.finds w.rows ch next low in
       let second = one_row z w.blobs c.finds (with_row_in_run w.rows ch next) 16 over enough in
@@ -197,7 +197,7 @@ module _ (z : RunSizes) where
   -- the own row waits again
   pub closes : (w v : RunState) → 16 < z.rows → CloseMove z w v → work z v < work z w
   closes w v enough c =
-      let next : RowInRun = logged_at [] AtIdle in
+      let next : RowInRun = logged_row [] AtIdle in
       let all = one_row z w.blobs w.finds w.rows 16 next enough in
       let was : own_work z w ≡ try_work z + 1 =
       ap (λ f. to_end z f (is_in_use (w.rows 16).stage)) c.none ∙ ap (λ b. to_end z None b) c.used in

@@ -4,7 +4,7 @@ use Rattle.std.proofs.Common.{Bool, true, false, List, [], ◌∷◌, refl, sym,
 use Rattle.std.proofs.lemmas.Bool.Decides.{eqb_tells}
 use Rattle.volume_model.specs.declared.reply.Msg.{Msg}
 use Rattle.run_work.specs.RunState.{AtPosted, JobInRun, PhaseInRun, RunState}
-use Rattle.run_work.specs.Reading.{frozen_left, frozen_set, is_there, job_left}
+use Rattle.run_work.specs.Reading.{frozen_left, frozen_set, is_there, job_left_in_run}
 use Rattle.run_work.specs.Work.{one_if}
 use Rattle.run_work.specs.ServingMoves.{Serves, TakesOut, the_filled, the_first, the_held, the_message, the_own}
 use Rattle.run_work.specs.ServingMoves.{the_taken_over, WaitsInJob, WorksFor}
@@ -149,7 +149,8 @@ no_row w j k runs waits s =
     cc (sym s.2 ∙ ap (λ (x : JobInRun). x.waits) (same_job w j s.0 runs s.1) ∙ waits)
 
 -- a job that goes on is waited for as before
-pub waits_on : (w v : RunState) (j : JobInRun) (rest : List PhaseInRun) → w.job ≡ Some j → v.job ≡ job_left j rest
+pub waits_on : (w v : RunState) (j : JobInRun) (rest : List PhaseInRun) → w.job ≡ Some j → v.job
+    ≡ job_left_in_run j rest
     → (rest ≡ [] → j.waits ≡ None) → (k : ℕ) → WaitsInJob w k → WaitsInJob v k
 waits_on w v j [] runs left ends k s = absurd (no_row w j k runs (ends refl) s)
 waits_on w v j (x ∷ xs) runs left ends k s =
@@ -157,7 +158,8 @@ waits_on w v j (x ∷ xs) runs left ends k s =
 
 -- a blob that is frozen while the job goes on is its own
 pub frozen_on : (w v : RunState) (j : JobInRun) (o : Option ℕ) (rest : List PhaseInRun) → RunFacts w → w.job ≡ Some j
-    → v.job ≡ job_left (record j { waits = o }) rest → (h : ℕ) → frozen_left w.frozen j rest h ≡ true → FrozenBy v h
+    → v.job ≡ job_left_in_run (record j { waits = o }) rest → (h : ℕ) → frozen_left w.frozen j rest h ≡ true
+    → FrozenBy v h
 frozen_on w v j o (x ∷ xs) f runs left h is =
     let was = f.frozen h is in (
       record j { phases = x ∷ xs; waits = o },

@@ -5,7 +5,7 @@ use Rattle.volume_model.specs.declared.command.VolumeRef.{VolumeRef}
 use Rattle.run_work.specs.RunState.{AtClaiming, AtCopying, AtDecided, AtEnded, AtIdle, AtPosted, AtReady, BlobInRun}
 use Rattle.run_work.specs.RunState.{ClaimInRun, CommandInRun, MetadataCommand, PageWrite, RowInRun, RunSizes, RunState}
 use Rattle.run_work.specs.RunState.{StageInRun}
-use Rattle.run_work.specs.Reading.{is_filled, logged_at, row_at, slot_in, stage_of_copy, unclaimed_at, with_row_in_run}
+use Rattle.run_work.specs.Reading.{is_filled, logged_row, row_at, slot_in, stage_of_copy, unclaimed_at, with_row_in_run}
 use Rattle.run_work.specs.Work.{is_doomed}
 
 -- the state with one row changed
@@ -111,7 +111,7 @@ module _ (z : RunSizes) where
   pub record EndMove (w : RunState) (ch : ℕ) (v : RunState) : Type 0 where
     pub left : (w.rows ch).left ≡ []
     pub stage : (w.rows ch).stage ≡ AtIdle
-    pub next : v ≡ moved_row w ch (logged_at [] AtEnded)
+    pub next : v ≡ moved_row w ch (logged_row [] AtEnded)
 
   -- A channel's own turn logs its first command: a read, a write, a flush, a refusal, a fault, or that the store has
   -- stopped. Its claim is given back, and with a failed write or flush no blob is frozen any more.
@@ -122,7 +122,7 @@ module _ (z : RunSizes) where
     pub stage : logs_itself (w.rows ch).stage ≡ true
     pub frozen : ℕ → Bool
     pub fewer : (h : ℕ) → frozen h ≡ true → w.frozen h ≡ true
-    pub next : v ≡ record (moved_row w ch (logged_at commands AtIdle)) { frozen = frozen }
+    pub next : v ≡ record (moved_row w ch (logged_row commands AtIdle)) { frozen = frozen }
 
   -- the message of a row is sent, where fewer than 8 are queued
   pub record SendMove (w : RunState) (ch : ℕ) (v : RunState) : Type 0 where

@@ -3,7 +3,7 @@ use Rattle.std.specs.Prelude.{◌≡◌, ◌≢◌, ℕ, ◌<◌, ◌≤◌, Som
 use Rattle.run_work.specs.RunState.{AtDecided, AtInJob, BlobInRun, BlobsInRun, CommandInRun, CommitPhase, FoundHeads}
 use Rattle.run_work.specs.RunState.{InsertPhase, JobInRun, MetadataCommand, PagePhase, PhaseInRun, ReplacementPhase}
 use Rattle.run_work.specs.RunState.{RunSizes, RunState}
-use Rattle.run_work.specs.Reading.{asks_metadata, frozen_left, job_left, logged_at, slot_in, stage_after_insert}
+use Rattle.run_work.specs.Reading.{asks_metadata, frozen_left, job_left_in_run, logged_row, slot_in, stage_after_insert}
 use Rattle.run_work.specs.Reading.{unclaimed_at, with_filled}
 use Rattle.run_work.specs.Work.{commit_is_left, empty_in}
 use Rattle.run_work.specs.ChannelMoves.{moved_row}
@@ -25,7 +25,7 @@ module _ (z : RunSizes) where
     pub runs : w.job ≡ Some job
     pub here : job.phases ≡ PagePhase ∷ rest
     pub ends : rest ≡ [] → job.waits ≡ None
-    pub next : v ≡ record w { job = job_left job rest; frozen = frozen_left w.frozen job rest }
+    pub next : v ≡ record w { job = job_left_in_run job rest; frozen = frozen_left w.frozen job rest }
 
   -- An insert's replacement puts the cluster into the slot, and the claim has ended. With nothing left to do the row is
   -- decided.
@@ -49,7 +49,7 @@ module _ (z : RunSizes) where
     pub others : (h : ℕ) → h ≢ head → blobs h ≡ w.blobs h
     pub next : v ≡ record (moved_row w ch (unclaimed_at (w.rows ch) (stage_after_insert rest))) {
       blobs = blobs;
-      job = job_left job rest;
+      job = job_left_in_run job rest;
     }
 
   -- with the last page of an insert's job its row is decided
@@ -76,7 +76,7 @@ module _ (z : RunSizes) where
     pub next : v ≡ record w {
       blobs = blobs;
       finds = finds;
-      job = job_left job rest;
+      job = job_left_in_run job rest;
       frozen = frozen_left w.frozen job rest;
     }
 
@@ -93,10 +93,10 @@ module _ (z : RunSizes) where
     pub blobs : BlobsInRun
     pub finds : FoundHeads
     pub replaces : ReplacesBlob w.blobs blobs
-    pub next : v ≡ record (moved_row w ch (logged_at commands AtDecided)) {
+    pub next : v ≡ record (moved_row w ch (logged_row commands AtDecided)) {
       blobs = blobs;
       finds = finds;
-      job = job_left (record job { waits = None }) rest;
+      job = job_left_in_run (record job { waits = None }) rest;
       frozen = frozen_left w.frozen job rest;
     }
 
@@ -112,7 +112,7 @@ module _ (z : RunSizes) where
     pub unlogged : command ≡ MetadataCommand → commit_is_left job.phases ≡ true
     pub frozen : ℕ → Bool
     pub thaws : (h : ℕ) → frozen h ≡ false
-    pub next : v ≡ record (moved_row w ch (logged_at commands AtDecided)) { job = None; frozen = frozen }
+    pub next : v ≡ record (moved_row w ch (logged_row commands AtDecided)) { job = None; frozen = frozen }
 
   -- the same where no row waits
   pub record DropMove (w v : RunState) : Type 0 where

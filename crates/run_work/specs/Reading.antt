@@ -55,8 +55,8 @@ abbrev pub unclaimed_at : RowInRun → StageInRun → RowInRun
 unclaimed_at row stage = record row { stage = stage; claim = None }
 
 -- a row whose first command is logged, its claim given back
-abbrev pub logged_at : List CommandInRun → StageInRun → RowInRun
-logged_at commands stage = record { left = commands; stage = stage; claim = None }
+abbrev pub logged_row : List CommandInRun → StageInRun → RowInRun
+logged_row commands stage = record { left = commands; stage = stage; claim = None }
 
 -- the stage once a page is copied and so many are left
 abbrev pub stage_of_copy : ℕ → StageInRun
@@ -87,9 +87,9 @@ meets_frozen frozen finds _ = false
 -- ---- jobs
 
 -- the job with these phases left, if any are
-abbrev pub job_left : JobInRun → List PhaseInRun → Option JobInRun
-job_left j [] = None
-job_left j (x ∷ xs) = Some (record j { phases = x ∷ xs })
+abbrev pub job_left_in_run : JobInRun → List PhaseInRun → Option JobInRun
+job_left_in_run j [] = None
+job_left_in_run j (x ∷ xs) = Some (record j { phases = x ∷ xs })
 
 -- the stage of an insert's row with these phases left of its job, with the last of which it is decided
 abbrev pub stage_after_insert : List PhaseInRun → StageInRun

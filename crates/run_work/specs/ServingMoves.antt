@@ -3,7 +3,7 @@ use Rattle.std.specs.Prelude.{◌≡◌, ◌⊎◌, ℕ, ◌≤◌, Option, Some
 use Rattle.volume_model.specs.declared.reply.Msg.{Msg}
 use Rattle.run_work.specs.RunState.{AtDecided, AtIdle, AtInJob, AtPosted, ClaimInRun, CommandInRun, FoundHeads}
 use Rattle.run_work.specs.RunState.{JobInRun, MetadataCommand, RunSizes, RunState, StageInRun}
-use Rattle.run_work.specs.Reading.{frozen_set, is_in_use, logged_at, row_at, unclaimed_at, with_row_in_run}
+use Rattle.run_work.specs.Reading.{frozen_set, is_in_use, logged_row, row_at, unclaimed_at, with_row_in_run}
 use Rattle.run_work.specs.Work.{decision_is_left, is_doomed, replacements_in}
 use Rattle.run_work.specs.ChannelMoves.{moved_row}
 
@@ -95,7 +95,7 @@ module _ (z : RunSizes) where
     pub held : Option Msg
     pub waiting : List Msg
     pub serves : Serves w ch held waiting
-    pub next : v ≡ record (moved_row w ch (logged_at commands AtDecided)) {
+    pub next : v ≡ record (moved_row w ch (logged_row commands AtDecided)) {
       finds = finds;
       held = held;
       waiting = waiting;
@@ -116,7 +116,7 @@ module _ (z : RunSizes) where
     pub waits : job.waits ≡ Some ch
     pub short : length job.phases ≤ z.job_turns
     pub few : replacements_in job.phases ≤ z.replacements
-    pub next : v ≡ record (moved_row w ch (logged_at (MetadataCommand ∷ commands) AtInJob)) {
+    pub next : v ≡ record (moved_row w ch (logged_row (MetadataCommand ∷ commands) AtInJob)) {
       job = Some job;
       frozen = frozen_set w.frozen job.freeze true;
       held = held;
@@ -154,7 +154,7 @@ module _ (z : RunSizes) where
     pub finds : FoundHeads
     pub next : v ≡ record w {
       finds = finds;
-      rows = with_row_in_run (with_row_in_run w.rows ch (logged_at commands AtDecided)) 16 (logged_at [] own);
+      rows = with_row_in_run (with_row_in_run w.rows ch (logged_row commands AtDecided)) 16 (logged_row [] own);
       held = held;
       fill = None;
       job = job;
@@ -167,4 +167,4 @@ module _ (z : RunSizes) where
     pub used : is_in_use (w.rows 16).stage ≡ true
     pub idle : w.job ≡ None
     pub none_left : (w.rows 16).left ≡ []
-    pub next : v ≡ moved_row w 16 (logged_at [] AtIdle)
+    pub next : v ≡ moved_row w 16 (logged_row [] AtIdle)

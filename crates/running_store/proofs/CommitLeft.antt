@@ -10,7 +10,7 @@ use Rattle.store_model.proofs.Zeroing.{commit_zeros}
 use Rattle.running_store.specs.Effects.{commit_seen}
 use Rattle.running_store.specs.Jobs.{commit_in, phases_for, phases_in, is_commit, replacing_of}
 use Rattle.running_store.specs.Jobs.{commits_now, erasing_commit, erasure_of, job_seen, writing_for}
-use Rattle.running_store.specs.Zeroing.{pages_from}
+use Rattle.running_store.specs.Zeroing.{zeroed_from}
 use Rattle.running_store.specs.declared.job.RunningJob.{RunningJob}
 use Rattle.running_store.specs.declared.job.Work.{Work}
 use Rattle.running_store.specs.declared.job.Work.TheVariants as work
@@ -74,7 +74,7 @@ commit_now j = by j.work refl ∙ sym (commit_marking j.marks (job_seen (record 
     by : (w : Work) → j.work ≡ w → (commits_now j.work || list_any is_commit j.later.items)
         ≡ has_commit (job_seen (record j { marks = false })).todo
     by (work.Zeroing p z) e = rw e (ap (λ b. is_some p.effects.commit || b) later
-        ∙ sym (commit_zeros (pages_from z.cluster_pages (drop z.clusters p.effects.claimed) z.pages)
+        ∙ sym (commit_zeros (zeroed_from z.cluster_pages (drop z.clusters p.effects.claimed) z.pages)
         (writing_for j.serves p j.old 0 (phases_in j.later.items)).todo
         ∙ commit_writing p (drop 0 (drop 1 p.chain)) j.old (phases_in j.later.items)))
     by (work.Writing p written) e = rw e (ap (λ b. is_some p.effects.commit || b) later

@@ -3,7 +3,7 @@ use Rattle.std.proofs.Common.{◌≡◌, ℕ, false, List, [], ◌∷◌, Option
 use Rattle.std.specs.Ordering.{nat_cmp}
 use Rattle.std.specs.FinSet as set
 use Rattle.std.specs.Prelude.{is_some}
-use Rattle.io_freeze.specs.Guards.{GuardsState, removed, renewed}
+use Rattle.io_freeze.specs.Guards.{GuardsState, guard_removed, renewed}
 use Rattle.running_store.specs.Blobs.{blobs_behind, numbered_in, Blobs, CanAllBeKept, CanBeKept, HasPlacesFor}
 use Rattle.running_store.specs.Blobs.{WillBeKept}
 use Rattle.running_store.specs.Jobs.{to_come}
@@ -45,7 +45,7 @@ behind_frozen b frozen (change.Writes p) =
     (numbers_frozen b.guards frozen (numbered_in p.effects.commit (is_some p.effects.rooms.chain) p.head))
 behind_frozen b frozen (change.Erases e) =
     ap (λ (g : GuardsState). record (blobs_behind b (change.Erases e)) { guards = g })
-    (numbers_frozen (removed b.guards e.head)
+    (numbers_frozen (guard_removed b.guards e.head)
     (set.remove frozen e.head) (numbered_in e.commit false e.head))
 
 places_frozen : (b : Blobs) (frozen : Frozen) (x : Change) → HasPlacesFor b x → HasPlacesFor (with_frozen b frozen) x
@@ -61,7 +61,7 @@ places_frozen b frozen (change.Writes p) has = record {
 places_frozen b frozen (change.Erases e) has = record {
   live_fits = has.live_fits;
   shown_fits = has.shown_fits;
-  numbers = can_number (removed b.guards e.head)
+  numbers = can_number (guard_removed b.guards e.head)
       (set.remove frozen e.head) (numbered_in e.commit false e.head) has.numbers;
 }
 

@@ -14,7 +14,7 @@ use Rattle.blob_meta.specs.declared.meta.Meta.{Meta}
 use Rattle.store_model.specs.Maps.{with_entry, with_option, without_entry, Metas}
 use Rattle.store_model.proofs.WithEntry.{given_here, given_elsewhere}
 use Rattle.running_store.specs.Places.{changed_at}
-use Rattle.running_store.specs.Running.{AreHeads}
+use Rattle.running_store.specs.Running.{AreHeadPlaces}
 
 -- keys are the same by their order exactly where they are equal
 pub is_key : (q k : ℕ) → eq_by_cmp nat_cmp q k ≡ eqb q k
@@ -38,7 +38,7 @@ changed_given m head (Some x) = insert_given m head x
 
 -- the heads stay the same where a blob that is there has other metadata
 heads_stay : (md_len : ℕ) (m : Metas) (head : ℕ) (new : Meta) (heads : List Bool) → IsSome (m head)
-    → AreHeads md_len m heads → AreHeads md_len (with_entry m head new) heads
+    → AreHeadPlaces md_len m heads → AreHeadPlaces md_len (with_entry m head new) heads
 heads_stay md_len m head new heads there are = record {
   count = are.count;
   are = λ k lt. elim (cases_eq k head) [
@@ -54,7 +54,7 @@ heads_stay md_len m head new heads there are = record {
 
 -- of a new blob the head is set
 heads_made : (md_len : ℕ) (m : Metas) (head : ℕ) (new : Meta) (heads : List Bool) → head < md_len
-    → AreHeads md_len m heads → AreHeads md_len (with_entry m head new) (slice_set heads head true)
+    → AreHeadPlaces md_len m heads → AreHeadPlaces md_len (with_entry m head new) (slice_set heads head true)
 heads_made md_len m head new heads low are = record {
   count = length-set heads head true ∙ are.count;
   are = λ k lt. elim (cases_eq k head) [
@@ -75,7 +75,7 @@ heads_made md_len m head new heads low are = record {
 
 -- the heads once the blob is as it was planned, new or not
 pub heads_adopted : (makes : Bool) (md_len : ℕ) (m : Metas) (head : ℕ) (new : Meta) (heads : List Bool)
-    → (makes ≡ false → IsSome (m head)) → head < md_len → AreHeads md_len m heads
-    → AreHeads md_len (with_entry m head new) (if makes then slice_set heads head true else heads)
+    → (makes ≡ false → IsSome (m head)) → head < md_len → AreHeadPlaces md_len m heads
+    → AreHeadPlaces md_len (with_entry m head new) (if makes then slice_set heads head true else heads)
 heads_adopted true md_len m head new heads there low are = heads_made md_len m head new heads low are
 heads_adopted false md_len m head new heads there low are = heads_stay md_len m head new heads (there refl) are

@@ -24,7 +24,7 @@ use Rattle.page_disk.specs.Disk.{HasCause, Image, RoseByOne, with_page}
 use Rattle.page_disk.specs.declared.disk.PageDisk.{Ghosts}
 use Rattle.page_disk.specs.declared.disk.DiskFault.{DiskFault}
 use Rattle.volume_model.specs.Volumes.{zero_page}
-use Rattle.store_model.specs.Cases.{WritesOnePage, read_after}
+use Rattle.store_model.specs.Cases.{WritesOnePage, read_after_write}
 use Rattle.store_model.specs.Cases.{FailsToReplace}
 use Rattle.store_model.specs.Cases.Flush.{IsFlushed}
 use Rattle.store_model.specs.Cases.Read.{IsRead}
@@ -40,7 +40,8 @@ read_still false old new is = refl
 
 read_told : (tells : Bool) (old new : Image) (place : ℕ) (page : List ℕ)
     → (IsTrue tells → new ≡ with_page old place page)
-    → (if tells then new else (λ p. zero_page)) ≡ read_after tells (if tells then old else (λ p. zero_page)) place page
+    → (if tells then new else (λ p. zero_page))
+    ≡ read_after_write tells (if tells then old else (λ p. zero_page)) place page
 read_told true old new place page is = is refl
 read_told false old new place page is = refl
 

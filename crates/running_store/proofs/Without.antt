@@ -11,7 +11,7 @@ use Rattle.std.proofs.lemmas.List.{get_or-set_other, get_or-set_same, length-set
 use Rattle.bit_array.specs.Bits.{is_in}
 use Rattle.blob_meta.specs.declared.meta.Meta.{Meta}
 use Rattle.store_model.specs.Maps.{Metas, without_entry}
-use Rattle.running_store.specs.Running.{AreHeads}
+use Rattle.running_store.specs.Running.{AreHeadPlaces}
 use Rattle.running_store.specs.StoreView.{base_of}
 use Rattle.running_store.proofs.Maps.{remove_given}
 
@@ -29,8 +29,8 @@ module _ (metas marked : map.FinMap nat_cmp Meta) (head : ℕ) where
       by false x y = refl
 
 -- its head is none any more
-pub heads_gone : (md_len : ℕ) (m : Metas) (head : ℕ) (heads : List Bool) → head < md_len → AreHeads md_len m heads
-    → AreHeads md_len (without_entry m head) (slice_set heads head false)
+pub heads_gone : (md_len : ℕ) (m : Metas) (head : ℕ) (heads : List Bool) → head < md_len → AreHeadPlaces md_len m heads
+    → AreHeadPlaces md_len (without_entry m head) (slice_set heads head false)
 heads_gone md_len m head heads low are = record {
   count = length-set heads head false ∙ are.count;
   are = λ k lt. elim (cases_eq k head) [

@@ -6,7 +6,7 @@ use Rattle.store_model.specs.Phases.{Phase, Zeros}
 use Rattle.running_store.specs.Jobs.{begun_job, behind_zero, writing_for, zeroing_for, IsMatched, IsMatchedFor}
 use Rattle.running_store.specs.Jobs.{IsZeroedFor}
 use Rattle.std.specs.Prelude.{IsSome}
-use Rattle.running_store.specs.Zeroing.{next_zeroed, pages_from, pages_of, IsLeft}
+use Rattle.running_store.specs.Zeroing.{next_zeroed, zeroed_from, pages_of, IsLeft}
 use Rattle.running_store.specs.declared.replacements.Planned.{Planned}
 use Rattle.running_store.specs.declared.job.Serves.{Serves}
 use Rattle.running_store.specs.declared.job.Serves.TheVariants as whom
@@ -48,7 +48,7 @@ drop_past (x ∷ xs) zero le = absurd (omega (arith, le))
 drop_past (x ∷ xs) (suc n) le = drop_past xs n (omega (arith, le))
 
 -- all pages of clusters
-pub from_start : (k : ℕ) (l : List ℕ) → pages_from k l 0 ≡ pages_of k l
+pub from_start : (k : ℕ) (l : List ℕ) → zeroed_from k l 0 ≡ pages_of k l
 from_start k [] = refl
 from_start k (c ∷ cs) =
     ap (λ n. range_with_len n (k - 0) ++ pages_of k cs) (let same : c * k + 0 ≡ c * k = omega arith in same)
@@ -56,7 +56,7 @@ from_start k (c ∷ cs) =
 
 -- The next page is that of the cluster that is being overwritten,
 pub first_page : (k : ℕ) (l : List ℕ) (m page : ℕ) → m < length l → page < k
-    → pages_from k (drop m l) page ≡ (get_or l m 0 * k + page) ∷ drop 1 (pages_from k (drop m l) page)
+    → zeroed_from k (drop m l) page ≡ (get_or l m 0 * k + page) ∷ drop 1 (zeroed_from k (drop m l) page)
 first_page k [] m page low some = absurd (omega (arith, low))
 first_page k (c ∷ cs) zero page low some =
     first_of_row (c * k + page) (k - page) (pages_of k cs) (omega (arith, some))
@@ -64,7 +64,7 @@ first_page k (c ∷ cs) (suc m) page low some = first_page k cs m page (omega (a
 
 -- behind which the next page of the cluster comes,
 pub next_in_cluster : (k : ℕ) (l : List ℕ) (m page : ℕ) → m < length l → page + 1 < k
-    → pages_from k (drop m l) (page + 1) ≡ drop 1 (pages_from k (drop m l) page)
+    → zeroed_from k (drop m l) (page + 1) ≡ drop 1 (zeroed_from k (drop m l) page)
 next_in_cluster k [] m page low more = absurd (omega (arith, low))
 next_in_cluster k (c ∷ cs) zero page low more =
     ap (λ n. range_with_len n (k - (page + 1)) ++ pages_of k cs)
@@ -75,7 +75,7 @@ next_in_cluster k (c ∷ cs) (suc m) page low more = next_in_cluster k cs m page
 
 -- or the first of the next cluster.
 pub next_cluster : (k : ℕ) (l : List ℕ) (m page : ℕ) → m < length l → page < k → k ≤ page + 1
-    → pages_from k (drop (suc m) l) 0 ≡ drop 1 (pages_from k (drop m l) page)
+    → zeroed_from k (drop (suc m) l) 0 ≡ drop 1 (zeroed_from k (drop m l) page)
 next_cluster k [] m page low some last = absurd (omega (arith, low))
 next_cluster k (c ∷ cs) zero page low some last =
     from_start k cs
@@ -107,7 +107,7 @@ module _ (serves : Serves) (planned : Planned) (old : List ℕ) (z : Zeroed) (ot
   j = zeroing_for serves planned old z others
 
   abbrev ahead : List ℕ
-  ahead = pages_from k (drop z.clusters claimed) z.pages
+  ahead = zeroed_from k (drop z.clusters claimed) z.pages
 
   abbrev more : List Phase
   more = (writing_for serves planned old 0 others).todo
@@ -128,7 +128,7 @@ module _ (serves : Serves) (planned : Planned) (old : List ℕ) (z : Zeroed) (ot
   pub page_more : z.pages + 1 < z.cluster_pages
       → zeroing_for serves planned old (record z { pages = z.pages + 1 }) others ≡ behind_zero j
   page_more some =
-      behind (pages_from k (drop z.clusters claimed) (z.pages + 1))
+      behind (zeroed_from k (drop z.clusters claimed) (z.pages + 1))
       (next_in_cluster k claimed z.clusters z.pages left.clusters some)
 
   -- or one of the next cluster,
@@ -137,7 +137,7 @@ module _ (serves : Serves) (planned : Planned) (old : List ℕ) (z : Zeroed) (ot
       ≡ behind_zero j
   cluster_more last =
       ap (λ n. zeroing_for serves planned old (record z { clusters = n; pages = 0 }) others) (add-one z.clusters)
-      ∙ behind (pages_from k (drop (suc z.clusters) claimed) 0)
+      ∙ behind (zeroed_from k (drop (suc z.clusters) claimed) 0)
       (next_cluster k claimed z.clusters z.pages left.clusters left.pages last)
 
   -- or the metadata is written.
@@ -145,7 +145,7 @@ module _ (serves : Serves) (planned : Planned) (old : List ℕ) (z : Zeroed) (ot
       → writing_for serves planned old 0 others ≡ behind_zero j
   none_more last all =
       behind []
-      (sym (ap (λ l. pages_from k l 0) (drop_past claimed (suc z.clusters) (omega (arith, all))))
+      (sym (ap (λ l. zeroed_from k l 0) (drop_past claimed (suc z.clusters) (omega (arith, all))))
       ∙ next_cluster k claimed z.clusters z.pages left.clusters left.pages last)
 
 -- where no cluster is claimed a job writes its metadata at once
@@ -154,5 +154,5 @@ pub none_zeroed : (serves : Serves) (planned : Planned) (old : List ℕ) (cluste
     → writing_for serves planned old 0 others ≡ begun_job serves planned old cluster_pages others
 none_zeroed serves planned old cluster_pages others none = sym (ap (λ l. record (writing_for serves planned old 0
     others) {
-      todo = map Zeros (pages_from cluster_pages l 0) ++ (writing_for serves planned old 0 others).todo;
+      todo = map Zeros (zeroed_from cluster_pages l 0) ++ (writing_for serves planned old 0 others).todo;
     }) (drop_past planned.effects.claimed 0 none))

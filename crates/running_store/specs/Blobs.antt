@@ -7,7 +7,7 @@ use Rattle.std.specs.Ordering.{nat_cmp}
 use Rattle.volume_model.specs.Xattrs.{Xattrs}
 use Rattle.blob_meta.specs.declared.meta.Meta.{Meta}
 use Rattle.blob_meta.specs.Resolving.{mark_of}
-use Rattle.io_freeze.specs.Guards.{GuardsState, removed}
+use Rattle.io_freeze.specs.Guards.{GuardsState, guard_removed}
 use Rattle.running_store.specs.Effects.{numbered_by}
 use Rattle.running_store.specs.Jobs.{to_come}
 use Rattle.running_store.specs.Places.{with_changes, with_numbers, CanNumber, HasPlace, HasPlaceFor}
@@ -54,8 +54,8 @@ abbrev pub shows_of : Option Commit → Option (EntryChange Meta)
 shows_of commit = option_and_then (λ c. c.shows) commit
 
 -- that of the attributes that are read
-abbrev pub live_of : Option Commit → Option (EntryChange Xattrs)
-live_of commit = option_and_then (λ c. c.live) commit
+abbrev pub live_change : Option Commit → Option (EntryChange Xattrs)
+live_change commit = option_and_then (λ c. c.live) commit
 
 -- the blobs that get generations: those that a commit renews, or else one that is made
 abbrev pub numbered_in : Option Commit → Bool → ℕ → List ℕ
@@ -68,7 +68,7 @@ blobs_given b head new chain e = record {
   metas = with_changes (metas_given b.metas head new) (shows_of e.commit);
   marked = marked_given b.marked head new;
   chains = map.insert b.chains head chain;
-  live = with_changes b.live (live_of e.commit);
+  live = with_changes b.live (live_change e.commit);
   guards = with_numbers b.guards (numbered_in e.commit (is_some e.rooms.chain) head);
 }
 
@@ -78,8 +78,8 @@ blobs_without b e = record {
   metas = with_changes (map.remove b.metas e.head) (shows_of e.commit);
   marked = map.remove b.marked e.head;
   chains = map.remove b.chains e.head;
-  live = with_changes b.live (live_of e.commit);
-  guards = with_numbers (removed b.guards e.head) (numbered_in e.commit false e.head);
+  live = with_changes b.live (live_change e.commit);
+  guards = with_numbers (guard_removed b.guards e.head) (numbered_in e.commit false e.head);
 }
 
 abbrev pub blobs_behind : Blobs → Change → Blobs
@@ -97,7 +97,7 @@ pub record HaveRooms (b : Blobs) (head : ℕ) (new : Meta) (rooms : Rooms) : Typ
 -- So there is for what the commit changes, in these maps, and for its generations.
 pub record HasCommitPlaces (metas : map.FinMap nat_cmp Meta) (live : map.FinMap nat_cmp Xattrs) (guards : GuardsState)
     (commit : Option Commit) (made : List ℕ) : Type 0 where
-  pub live_fits : IfSome (live_of commit) (HasPlaceFor live)
+  pub live_fits : IfSome (live_change commit) (HasPlaceFor live)
   pub shown_fits : IfSome (shows_of commit) (HasPlaceFor metas)
   pub numbers : CanNumber guards made
 
@@ -110,7 +110,7 @@ pub record HasPlaces (b : Blobs) (head : ℕ) (new : Meta) (e : Effects) : Type 
 abbrev pub HasPlacesFor : Blobs → Change → Type 0
 HasPlacesFor b (change.Writes p) = HasPlaces b p.head p.new p.effects
 HasPlacesFor b (change.Erases e) =
-    HasCommitPlaces (map.remove b.metas e.head) b.live (removed b.guards e.head) e.commit
+    HasCommitPlaces (map.remove b.metas e.head) b.live (guard_removed b.guards e.head) e.commit
     (numbered_in e.commit false e.head)
 
 abbrev pub head_of : Change → ℕ

@@ -10,7 +10,7 @@ use Rattle.volume_model.specs.declared.command.Command.TheVariants as c
 use Rattle.volume_model.specs.declared.reply.Reply.{Reply}
 use Rattle.volume_model.specs.declared.reply.Reply.TheVariants as r
 use Rattle.blob_meta.specs.declared.meta.Meta.{Meta}
-use Rattle.blob_meta.specs.Faults.{clusters_of}
+use Rattle.blob_meta.specs.Faults.{clusters_held}
 use Rattle.store_model.specs.Phases.{Committing, LiveChange}
 use Rattle.running_store.specs.declared.effects.Effects.{Effects}
 use Rattle.running_store.specs.declared.entries.EntryChange.{EntryChange}
@@ -60,7 +60,7 @@ is_renewed command old new = takes_parent command || is_cut old new
 -- the clusters of the slots that are cut
 abbrev pub cut_clusters : Option Meta → Meta → List ℕ
 cut_clusters None new = []
-cut_clusters (Some old) new = clusters_of (drop (length new.map) old.map)
+cut_clusters (Some old) new = clusters_held (drop (length new.map) old.map)
 
 -- the blob at a head, if it gets a generation
 abbrev pub numbered_by : Bool → ℕ → List ℕ

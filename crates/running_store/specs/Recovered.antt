@@ -17,8 +17,8 @@ use Rattle.running_store.specs.LoadedWhole.{AreMasks}
 pub use Rattle.running_store.specs.StoreView.{base_of}
 
 -- the blobs with a mark, as they are
-abbrev pub marked : Metas → Metas
-marked metas head = option_and_then (λ m. option_map (λ _. m) (mark_of m)) (metas head)
+abbrev pub marked_blobs : Metas → Metas
+marked_blobs metas head = option_and_then (λ m. option_map (λ _. m) (mark_of m)) (metas head)
 
 -- the chains of the blobs that are there
 abbrev pub chains_of : Metas → Chains → Chains
@@ -34,7 +34,7 @@ pub record IsRecovered (s : Super) (read : Metas) (links : Chains) (metas gone m
   pub few : slots_together s.md_len read ≤ 2 ^ 24
   pub resolves : resolved read ≡ map.get metas
   pub removes : removed read ≡ map.get gone
-  pub marks : marked read ≡ map.get marked_too
+  pub marks : marked_blobs read ≡ map.get marked_too
   pub repairs_are : list ≡ repairs s.md_len read
   pub named : AreNamed (resolved read)
   pub lawful : IsLawful s.md_len (resolved read)

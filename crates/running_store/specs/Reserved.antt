@@ -23,9 +23,9 @@ IsContent content (r.Content page) = page.value ≡ content
 IsContent content _ = ⊥
 
 -- the answer is a page's content
-abbrev pub IsPage : Answer → Type 0
-IsPage (answer.Reply reply) = ⊥
-IsPage (answer.Page content) = Unit {0}
+abbrev pub IsPageAnswer : Answer → Type 0
+IsPageAnswer (answer.Reply reply) = ⊥
+IsPageAnswer (answer.Page content) = Unit {0}
 
 -- the reply is that of the answer
 abbrev pub IsReplyOf : Answer → Reply → Type 0

@@ -52,7 +52,7 @@ abbrev pub left_in : List Row → ℕ
 left_in rows = sum_by (λ r. length r.left) rows
 
 -- The places in the set are those of the blobs' heads.
-pub record AreHeads (md_len : ℕ) (metas : Metas) (heads : List Bool) : Type 0 where
+pub record AreHeadPlaces (md_len : ℕ) (metas : Metas) (heads : List Bool) : Type 0 where
   pub count : length heads ≡ md_len
   pub are : (head : ℕ) → head < md_len → (is_in heads head ≡ true) ↔ IsSome (metas head)
 
@@ -69,8 +69,8 @@ with_blobs running b = record running {
 }
 
 -- once a blob has what was planned
-abbrev pub adopted : {D : Type 0} → Running D → Planned → Running D
-adopted running p = record (with_blobs running (blobs_behind (blobs_of running) (change.Writes p))) {
+abbrev pub blob_adopted : {D : Type 0} → Running D → Planned → Running D
+blob_adopted running p = record (with_blobs running (blobs_behind (blobs_of running) (change.Writes p))) {
   clusters = record { bits = all_set running.clusters.bits p.effects.freed false; claims = [] };
   heads = if is_some p.effects.rooms.chain then slice_set running.heads p.head true else running.heads;
 }
@@ -99,6 +99,6 @@ pub record InOrder {D : Type 0} (d : Ghosts D) (running : Running D) : Type 0 wh
   pub no_page : running.pages.claims ≡ []
   pub no_cluster : running.clusters.claims ≡ []
   pub headed : IfSome running.job IsHeaded
-  pub heads : AreHeads running.sup.md_len (base_of running.metas running.marked) running.heads
+  pub heads : AreHeadPlaces running.sup.md_len (base_of running.metas running.marked) running.heads
   pub resolves : AreResolved running.metas running.marked
   pub kept : IfSome running.job (WillBeKept (blobs_of running))

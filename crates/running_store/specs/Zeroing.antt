@@ -10,14 +10,14 @@ pages_of cluster_pages clusters =
     flat_map (λ cluster. range_with_len (cluster * cluster_pages) cluster_pages) clusters
 
 -- those of them that come from so many pages of the first cluster on
-abbrev pub pages_from : ℕ → List ℕ → ℕ → List ℕ
-pages_from cluster_pages [] done = []
-pages_from cluster_pages (cluster ∷ clusters) done =
+abbrev pub zeroed_from : ℕ → List ℕ → ℕ → List ℕ
+zeroed_from cluster_pages [] done = []
+zeroed_from cluster_pages (cluster ∷ clusters) done =
     range_with_len (cluster * cluster_pages + done) (cluster_pages - done) ++ pages_of cluster_pages clusters
 
 -- what is left to be overwritten of the claimed clusters
 abbrev pub zeros_from : List ℕ → Zeroed → List Phase
-zeros_from claimed z = map Zeros (pages_from z.cluster_pages (drop z.clusters claimed) z.pages)
+zeros_from claimed z = map Zeros (zeroed_from z.cluster_pages (drop z.clusters claimed) z.pages)
 
 -- the page that comes next
 abbrev pub next_zeroed : List ℕ → Zeroed → ℕ

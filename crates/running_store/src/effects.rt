@@ -2,7 +2,7 @@
 
 ghost use Rattle.std.specs.Prelude.{◌≡◌, ◌||◌, [], not, is_some, true, IfOk, IsTrue, option_copied};
 ghost use Rattle.std.specs.FinMap as map;
-ghost use Rattle.blob_meta.specs.Faults.{clusters_of};
+ghost use Rattle.blob_meta.specs.Faults.{clusters_held};
 ghost use Rattle.std.specs.Option.{option_map};
 ghost use Rattle.volume_model.specs.Xattrs.{name_key, with_nul as with_nul_said, with_value};
 ghost use Rattle.running_store.specs.Blobs.{blobs_of, HasPlaces, HaveRooms};
@@ -165,7 +165,7 @@ fn cut_from(alloc: Global, before: Option<&Meta>, new: &Meta) -> Result<(bool, P
 
 /// The clusters that slots hold.
 fn clusters_in(alloc: Global, slots: &[Option<u32>]) -> Result<PlaceList, Memory>
-    ensures { IfOk result (λ clusters. clusters ≡ clusters_of slots.now) }
+    ensures { IfOk result (λ clusters. clusters ≡ clusters_held slots.now) }
 {
     let clusters: Vec<u32> = slots.iter().filter_map(|slot| *slot).collect(alloc)?;
     Ok(PlaceList::from_vec(clusters))

@@ -4,7 +4,7 @@ ghost use Rattle.std.specs.Prelude.{◌≡◌, ◌<◌, ◌∷◌, true, List, l
 ghost use Rattle.volume_model.specs.declared.command.Command.{Command as ACommand};
 ghost use Rattle.running_store.specs.Running.{view_of, InOrder};
 ghost use Rattle.running_store.specs.StoreView.{rows_of};
-ghost use Rattle.running_store.specs.Reserved.{is_read, IsContent, IsPage, IsReplyOf};
+ghost use Rattle.running_store.specs.Reserved.{is_read, IsContent, IsPageAnswer, IsReplyOf};
 ghost use Rattle.volume_model.specs.declared.reply.Reply.{Reply as AReply};
 ghost use Rattle.running_store.specs.Stages.{stage_seen};
 ghost use Rattle.running_store.specs.Steps.{decided, gone_on, Asks, left_at, logged_at, logged_on, logged_then};
@@ -76,7 +76,7 @@ pub fn log_content<D: PageDisk>(running: &mut Running<D>, channel: u8, content: 
 
 /// The reply of an answer; the content of a page goes into a page that is reserved for it.
 fn reply_of(answer: Answer<'_>, reserved: Option<Box<Page>>) -> Reply
-    requires { IsPage answer → IsSome reserved }
+    requires { IsPageAnswer answer → IsSome reserved }
     ensures { IsReplyOf answer.entry result }
 {
     match answer {
@@ -102,7 +102,7 @@ pub(crate) fn log_then<D: PageDisk>(
     requires order { InOrder D.PageDisk running.old }
     requires channel { channel < 16 }
     requires left { 0 < length (rows_of running.old.rows.items channel).left }
-    requires reads { IsPage answer → Asks (view_of running.old) channel (λ command. is_read command ≡ true) }
+    requires reads { IsPageAnswer answer → Asks (view_of running.old) channel (λ command. is_read command ≡ true) }
     ensures logged { (reply : AReply) × IsReplyOf answer.entry reply × ((command : ACommand) (rest : List ACommand)
         → (rows_of running.old.rows.items channel).left ≡ command ∷ rest → view_of running.new
         ≡ logged_then (stage_seen next) (view_of running.old) channel command rest reply (D.clock running.new.disk)) }

@@ -2,9 +2,9 @@
 use Rattle.std.proofs.Common.{◌≡◌, ℕ, zero, suc, [], Option, None, refl}
 use Rattle.std.specs.Prelude.{replicate, slice_get}
 use Rattle.std.specs.Option.{option_and_then}
-use Rattle.blob_meta.specs.Faults.{clusters_of}
+use Rattle.blob_meta.specs.Faults.{clusters_held}
 
-pub none_in : (n : ℕ) → clusters_of (replicate n None) ≡ []
+pub none_in : (n : ℕ) → clusters_held (replicate n None) ≡ []
 none_in zero = refl
 none_in (suc n) = none_in n
 

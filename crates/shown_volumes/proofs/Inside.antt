@@ -8,7 +8,7 @@ use Rattle.std.proofs.lemmas.Bool.Decides.{nat_tests}
 use Rattle.blob_meta.specs.declared.meta.Meta.{Meta}
 use Rattle.blob_meta.specs.declared.fault.MetaFault.TheVariants as faults
 use Rattle.blob_meta.specs.Faults.{first_some, unknown_flag, too_large, cluster_outside, map_fault, hole_in_thick}
-use Rattle.blob_meta.specs.Faults.{bad_mark, meta_fault, is_outside, clusters_of}
+use Rattle.blob_meta.specs.Faults.{bad_mark, meta_fault, is_outside, clusters_held}
 use Rattle.blob_meta.specs.Parents.{slot}
 
 pub record IsInside (fixed clusters cluster : ℕ) : Type 0 where
@@ -37,15 +37,15 @@ module _ (fixed clusters : ℕ) where
         (inside, subst (λ (b : Bool). (if b then Some c else find (is_outside fixed clusters) rest) ≡ None) inside none)
   ]
 
-  inside_at : (map : List (Option ℕ)) (i cluster : ℕ) → find (is_outside fixed clusters) (clusters_of map) ≡ None
+  inside_at : (map : List (Option ℕ)) (i cluster : ℕ) → find (is_outside fixed clusters) (clusters_held map) ≡ None
       → slice_get map i ≡ Some (Some cluster) → is_outside fixed clusters cluster ≡ false
   inside_at [] i cluster none at = absurd (cc at)
   inside_at (None ∷ map) zero cluster none at = absurd (cc at)
   inside_at (None ∷ map) (suc i) cluster none at = inside_at map i cluster none at
   inside_at (Some c ∷ map) zero cluster none at =
       let e : c ≡ cluster = cc at in
-      subst (λ k. is_outside fixed clusters k ≡ false) e (passes c (clusters_of map) none).0
-  inside_at (Some c ∷ map) (suc i) cluster none at = inside_at map i cluster (passes c (clusters_of map) none).1 at
+      subst (λ k. is_outside fixed clusters k ≡ false) e (passes c (clusters_held map) none).0
+  inside_at (Some c ∷ map) (suc i) cluster none at = inside_at map i cluster (passes c (clusters_held map) none).1 at
 
   pub inside_slot : (m : Meta) (i cluster : ℕ) → meta_fault fixed clusters m ≡ None → slot m i ≡ Some cluster
       → IsInside fixed clusters cluster

@@ -9,7 +9,7 @@ use Rattle.std.proofs.lemmas.List.Quantifiers.{position-Some}
 use Rattle.std.proofs.lemmas.List.Sums.{fails_before_first}
 use Rattle.blob_meta.specs.declared.fault.MetaFault.{MetaFault}
 use Rattle.blob_meta.specs.declared.meta.Meta.{Meta}
-use Rattle.blob_meta.specs.Faults.{bad_mark, cluster_outside, clusters_of, first_some, hole_in_thick, is_outside}
+use Rattle.blob_meta.specs.Faults.{bad_mark, cluster_outside, clusters_held, first_some, hole_in_thick, is_outside}
 use Rattle.blob_meta.specs.Jobs.{new_meta}
 use Rattle.blob_meta.specs.Says.{without_bit_1}
 use Rattle.blob_meta.specs.Faults.{map_fault, meta_fault, too_large, unknown_flag}
@@ -82,7 +82,7 @@ all_full map none i lt = elim (cases_lt (position_or_len is_none map) (length ma
 -- no cluster of a map lies outside
 pub all_inside : (fixed clusters : ℕ) (map : List (Option ℕ))
     → ((i c : ℕ) → slot_in map i ≡ Some c → is_outside fixed clusters c ≡ false)
-    → find (is_outside fixed clusters) (clusters_of map) ≡ None
+    → find (is_outside fixed clusters) (clusters_held map) ≡ None
 all_inside fixed clusters [] inside = refl
 all_inside fixed clusters (None ∷ map) inside = all_inside fixed clusters map (λ i. inside (suc i))
 all_inside fixed clusters (Some c ∷ map) inside =

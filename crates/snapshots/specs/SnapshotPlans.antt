@@ -10,7 +10,7 @@ use Rattle.blob_meta.specs.declared.job.Job.{Job}
 use Rattle.snapshots.specs.SnapshotJobs.{snapshot_job, clone_job}
 
 -- A copy of the blob at a head, with the attributes `name` and `uuid` alone: the job makes it of what the blob is.
-pub record Copies (metas : map.FinMap nat_cmp Meta) (volume head : ℕ) (name : Text) (uuid : List ℕ)
+pub record CopiesBlob (metas : map.FinMap nat_cmp Meta) (volume head : ℕ) (name : Text) (uuid : List ℕ)
     (job_of : ℕ → Meta → ℕ → Xattrs → Job) (job : Job) : Type 0 where
   pub old : Meta
   pub there : map.get metas volume ≡ Some old
@@ -21,8 +21,8 @@ pub record Copies (metas : map.FinMap nat_cmp Meta) (volume head : ℕ) (name : 
 
 -- a snapshot of the blob at a head, at another
 abbrev pub PlansSnapshot : map.FinMap nat_cmp Meta → ℕ → ℕ → Text → List ℕ → Job → Type 0
-PlansSnapshot metas volume head name uuid job = Copies metas volume head name uuid snapshot_job job
+PlansSnapshot metas volume head name uuid job = CopiesBlob metas volume head name uuid snapshot_job job
 
 -- a clone of the blob at a head, at another
 abbrev pub PlansClone : map.FinMap nat_cmp Meta → ℕ → ℕ → Text → List ℕ → Job → Type 0
-PlansClone metas volume head name uuid job = Copies metas volume head name uuid clone_job job
+PlansClone metas volume head name uuid job = CopiesBlob metas volume head name uuid clone_job job

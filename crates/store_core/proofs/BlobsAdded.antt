@@ -7,7 +7,7 @@ use Rattle.std.proofs.lemmas.List.{get_or-set_same, get_or-set_other, length-set
 use Rattle.bit_array.specs.Bits.{is_in}
 use Rattle.super_block.specs.declared.masks.Masks.{Masks}
 use Rattle.blob_meta.specs.declared.meta.Meta.{Meta}
-use Rattle.blob_meta.specs.Faults.{clusters_of}
+use Rattle.blob_meta.specs.Faults.{clusters_held}
 use Rattle.md_chain.specs.Chain.{is_among}
 use Rattle.store_model.specs.Maps.{Metas, Chains}
 use Rattle.store_model.specs.Places.{IsLinked}
@@ -111,14 +111,14 @@ module _ (blobs : Metas) (chains : Chains) (old now : Masks) (end : ℕ)
       among = among;
     })
 
-    clusters_low : (c : ℕ) → is_among c (clusters_of m.map) ≡ true → c < length now.clusters
+    clusters_low : (c : ℕ) → is_among c (clusters_held m.map) ≡ true → c < length now.clusters
     clusters_low c among = fit.clusters end m c there among
 
     -- the blob at the next head adds its head, its chain's pages and its clusters
     pub more_added : AreWith (those_below blobs (end + 1)) chains old (masks_with now end m chain)
     more_added = record {
       page_count = length_all_set now.pages chain true ∙ with.page_count;
-      cluster_count = length_all_set now.clusters (clusters_of m.map) true ∙ with.cluster_count;
+      cluster_count = length_all_set now.clusters (clusters_held m.map) true ∙ with.cluster_count;
       head_count = length-set now.blobs end true ∙ with.head_count;
       pages = λ place.
           let set = set_with now.pages chain pages_low place in (
@@ -151,7 +151,7 @@ module _ (blobs : Metas) (chains : Chains) (old now : Masks) (end : ℕ)
             ]),
           );
       clusters = λ cluster.
-          let set = set_with now.clusters (clusters_of m.map) clusters_low cluster in (
+          let set = set_with now.clusters (clusters_held m.map) clusters_low cluster in (
             λ in_use. elim (set.0 in_use) [
               | inl was ↦ elim ((with.clusters cluster).0 was) [
                 | inl first ↦ inl first
@@ -172,7 +172,7 @@ module _ (blobs : Metas) (chains : Chains) (old now : Masks) (end : ℕ)
               | inr x ↦ elim (cases_eq x.head end) [
                 | inl e ↦
                     let one : x.meta ≡ m = (let both = sym x.there ∙ ap then e ∙ here in cc both) in
-                    inr (subst (λ (n : Meta). is_among cluster (clusters_of n.map) ≡ true) one
+                    inr (subst (λ (n : Meta). is_among cluster (clusters_held n.map) ≡ true) one
                     (among_slots x.meta.map x.place cluster x.in_slot))
                 | inr ne ↦ inl ((with.clusters cluster).1 (inr (record {
                   head = x.head;

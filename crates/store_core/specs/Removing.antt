@@ -4,7 +4,7 @@ use Rattle.std.specs.Prelude.{slice_set, Some, None, IsSome}
 use Rattle.bit_array.specs.Bits.{is_in}
 use Rattle.super_block.specs.declared.masks.Masks.{Masks}
 use Rattle.blob_meta.specs.declared.meta.Meta.{Meta}
-use Rattle.blob_meta.specs.Faults.{clusters_of}
+use Rattle.blob_meta.specs.Faults.{clusters_held}
 use Rattle.md_chain.specs.Chain.{is_among}
 use Rattle.running_store.specs.Recovered.{chains_of}
 use Rattle.store_model.specs.Maps.{Metas, Chains}
@@ -18,7 +18,7 @@ those_below metas end h = if nat_lt h end then metas h else None
 abbrev pub masks_with : Masks → ℕ → Meta → List ℕ → Masks
 masks_with masks head m chain = record {
   pages = all_set masks.pages chain true;
-  clusters = all_set masks.clusters (clusters_of m.map) true;
+  clusters = all_set masks.clusters (clusters_held m.map) true;
   blobs = slice_set masks.blobs head true;
 }
 
@@ -27,7 +27,7 @@ pub record FitMasks (blobs : Metas) (chains : Chains) (masks : Masks) : Type 0 w
   pub chain : (h : ℕ) → IsSome (blobs h) → IsSome (chains h)
   pub head : (h : ℕ) → IsSome (blobs h) → h < length masks.blobs
   pub pages : (place : ℕ) → IsLinked (chains_of blobs chains) place → place < length masks.pages
-  pub clusters : (h : ℕ) (m : Meta) (c : ℕ) → blobs h ≡ Some m → is_among c (clusters_of m.map) ≡ true
+  pub clusters : (h : ℕ) (m : Meta) (c : ℕ) → blobs h ≡ Some m → is_among c (clusters_held m.map) ≡ true
       → c < length masks.clusters
 
 -- In use is what was before, and beside that the heads of these blobs, the pages of their chains and their clusters.

@@ -10,7 +10,7 @@ use Rattle.page_disk.proofs.Moments.{goes_on, not_written, started, written}
 use Rattle.super_block.specs.declared.layout.Layout.{Layout}
 use Rattle.page_runs.specs.Writing.{IsAnyBut, IsBetween, WritesOnly}
 use Rattle.page_runs.proofs.Runs.{written_after}
-use Rattle.store_format.specs.NewStore.{zero_page, HasMetadata}
+use Rattle.store_format.specs.NewStore.{zeroed_page, HasMetadata}
 
 -- one page was written, whether its write succeeded or not, and no other
 module _ {D : Type 0} (d : Ghosts D) (law : IsTrue d.tells → Telling d.now d.images d.since d.clock) (place : ℕ)
@@ -69,7 +69,7 @@ first_written d start count some first mid last was then =
 
 -- over zeros the super blob's page is the first
 pub first_page : (plan : Layout) (page : List ℕ) (old new : Image)
-    → ((k : ℕ) → k < plan.md_pages → old (plan.md_start + k) ≡ zero_page) → new ≡ with_page old plan.md_start page
+    → ((k : ℕ) → k < plan.md_pages → old (plan.md_start + k) ≡ zeroed_page) → new ≡ with_page old plan.md_start page
     → HasMetadata plan (Some page) new
 first_page plan page old new zeros is zero lt =
     let at : plan.md_start ≡ plan.md_start + 0 = omega arith in
@@ -84,7 +84,7 @@ first_page plan page old new zeros is (suc k) lt =
 pub first_page_told : (plan : Layout) (blob : Option (List ℕ)) (page : List ℕ) → blob ≡ Some page → (place : ℕ)
     → place ≡ plan.md_start → (old new : Image) (olds news : Images) (kind : WriteKind) {T : Type 0}
     (r : Result T DiskFault)
-    → ((k : ℕ) → k < plan.md_pages → old (plan.md_start + k) ≡ zero_page)
+    → ((k : ℕ) → k < plan.md_pages → old (plan.md_start + k) ≡ zeroed_page)
     → OnOk r (Wrote old new olds news place kind page) → OnOk r (HasMetadata plan blob new)
 first_page_told plan blob page is place at old new olds news kind (Ok done) zeros wrote =
     subst (λ (b : Option (List ℕ)). HasMetadata plan b new) (sym is)

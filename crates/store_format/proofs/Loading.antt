@@ -29,9 +29,10 @@ use Rattle.store_format.proofs.BareMetas.{bare_are_named, bare_is_lawful, few_sl
 use Rattle.store_format.proofs.BareMetas.{resolved_bare}
 use Rattle.store_format.proofs.BareMetas.{AreBare}
 use Rattle.store_format.proofs.NewMasks.{are_masks, clusters_long}
-use Rattle.store_format.specs.NewStore.{first_masks, first_super, md_page, zero_page, IsNewStore, IsReadAsPlanned}
+use Rattle.store_format.specs.NewStore.{first_masks, first_super, md_page, zeroed_page, IsNewStore, IsReadAsPlanned}
 use Rattle.store_format.specs.NewStore.{LoadsAsPlanned}
-use Rattle.store_format.specs.SuperBlob.{new_chains, new_metas, page_of, store_xattrs, super_blob_page, super_items}
+use Rattle.store_format.specs.SuperBlob.{new_chains, new_metas, super_blob_page_of, store_xattrs, super_blob_page}
+use Rattle.store_format.specs.SuperBlob.{super_items}
 use Rattle.store_format.specs.SuperBlob.{super_meta, AreReadable, IsReadable}
 use Rattle.store_format.specs.declared.super_blob.StoreName.{StoreName}
 use Rattle.store_format.proofs.SuperBlobPage.{says_super_meta}
@@ -77,7 +78,7 @@ few_md_pages plan is =
 
 -- ---- the metadata region
 
-no_head : (place : ℕ) (page : List ℕ) → page ≡ zero_page → is_head place page ≡ false
+no_head : (place : ℕ) (page : List ℕ) → page ≡ zeroed_page → is_head place page ≡ false
 no_head place page is = rw is (rw is_sound-zeros refl)
 
 -- a region whose pages are those of a new store
@@ -86,7 +87,7 @@ module _ (r : MdRegion) (image : Image) (some : 0 < r.len) (few : r.len < 2 ^ 32
   look = look_of r image
 
   -- where its pages are zeros there is no blob
-  no_blob : (head : ℕ) → (head < r.len → look head ≡ zero_page) → BlobAt look r head None None
+  no_blob : (head : ℕ) → (head < r.len → look head ≡ zeroed_page) → BlobAt look r head None None
   no_blob head zeros = inr (record {
     no_head = elim (cases_Bool (nat_lt head r.len)) [
       | inl lt ↦ rw lt (no_head head (look head) (zeros (ltb-true head r.len lt)))
@@ -124,7 +125,7 @@ module _ (r : MdRegion) (image : Image) (some : 0 < r.len) (few : r.len < 2 ^ 32
 
   -- the region says the super blob alone, or nothing
   says_new : (s : Super) → region_of s ≡ r → (named : Option StoreName) → AreReadable named
-      → ((k : ℕ) → k < r.len → look k ≡ md_page (page_of named) k)
+      → ((k : ℕ) → k < r.len → look k ≡ md_page (super_blob_page_of named) k)
       → Says r (new_metas named) (new_chains named) image
   says_new s is None readable pages head = no_blob head (pages head)
   says_new s is (Some named) readable pages zero = super_blob_at s is named readable (pages 0 some)
@@ -133,16 +134,17 @@ module _ (r : MdRegion) (image : Image) (some : 0 < r.len) (few : r.len < 2 ^ 32
 -- ---- the store
 
 module _ (plan : Layout) (named : Option StoreName) (image : Image) (some : 0 < plan.md_pages)
-    (few : plan.md_pages ≤ 2 ^ 20) (readable : AreReadable named) (new : IsNewStore plan (page_of named) image)
-    (read : IsReadAsPlanned plan (page_of named)) where
+    (few : plan.md_pages ≤ 2 ^ 20) (readable : AreReadable named)
+    (new : IsNewStore plan (super_blob_page_of named) image)
+    (read : IsReadAsPlanned plan (super_blob_page_of named)) where
   abbrev sup : Super
   sup = super_of (image 0) plan.device_pages
 
-  sup_is : sup ≡ record (first_super plan (page_of named)) { crc = read.sum }
+  sup_is : sup ≡ record (first_super plan (super_blob_page_of named)) { crc = read.sum }
   sup_is = ap (λ (page : List ℕ). super_of page plan.device_pages) new.super ∙ read.same
 
   md_is : (sup.md_start ≡ plan.md_start) × (sup.md_len ≡ plan.md_pages)
-  md_is = planned_md plan (page_of named) read.sum sup sup_is
+  md_is = planned_md plan (super_blob_page_of named) read.sum sup sup_is
 
   says : Says (region_of sup) (new_metas named) (new_chains named) image
   says =
@@ -169,7 +171,7 @@ module _ (plan : Layout) (named : Option StoreName) (image : Image) (some : 0 < 
   starts : (sup.used_page_mask_start ≡ plan.page_mask_start) × (sup.used_cluster_mask_start ≡ plan.cluster_mask_start)
       × (sup.used_blobid_mask_start ≡ plan.blob_mask_start) × (sup.clean ≡ 1)
   starts =
-      let first = first_starts plan (page_of named) in (
+      let first = first_starts plan (super_blob_page_of named) in (
         ap (λ (t : Super). t.used_page_mask_start) sup_is ∙ first.0,
         ap (λ (t : Super). t.used_cluster_mask_start) sup_is ∙ first.1,
         ap (λ (t : Super). t.used_blobid_mask_start) sup_is ∙ first.2,
@@ -188,13 +190,13 @@ module _ (plan : Layout) (named : Option StoreName) (image : Image) (some : 0 < 
 
   module _ (planned : IsPlanned plan) (laid : IsLaidOut plan) where
     -- its masks are what the super blob claims, if it has one
-    claims : AreMasks sup (new_metas named) (new_chains named) (first_masks plan (page_of named))
+    claims : AreMasks sup (new_metas named) (new_chains named) (first_masks plan (super_blob_page_of named))
     claims =
         are_masks plan planned laid some named read.sum sup sup_is md_is.1
         (λ c x. let bad = sym (no_cluster x.meta (bare x.head x.meta x.there).0 x.place) ∙ x.in_slot in cc bad)
 
     -- and stand where the super block says
-    has_masks : HasMasks sup (first_masks plan (page_of named)) image
+    has_masks : HasMasks sup (first_masks plan (super_blob_page_of named)) image
     has_masks = record {
       pages =
           λ k lt. ap (λ (n : ℕ). image (n + k)) starts.0
@@ -204,7 +206,7 @@ module _ (plan : Layout) (named : Option StoreName) (image : Image) (some : 0 < 
           λ k lt. ap (λ (n : ℕ). image (n + k)) starts.1
           ∙ new.regions.cluster_mask k
           (subst (λ (n : ℕ). k < n)
-          (ap mask_pages (clusters_long plan laid (page_of named)) ∙ sym laid.cluster_mask_len) lt);
+          (ap mask_pages (clusters_long plan laid (super_blob_page_of named)) ∙ sym laid.cluster_mask_len) lt);
       blobs =
           λ k lt. ap (λ (n : ℕ). image (n + k)) starts.2
           ∙ new.regions.blob_mask k
@@ -215,7 +217,7 @@ module _ (plan : Layout) (named : Option StoreName) (image : Image) (some : 0 < 
     loads_as_planned : UnloadedAreAccepted → ScanLaws → LoadsAsPlanned plan named image
     loads_as_planned accepts scans =
         let by_masks =
-        accepts sup (first_masks plan (page_of named)) image (new_metas named)
+        accepts sup (first_masks plan (super_blob_page_of named)) image (new_metas named)
         (new_chains named) can_be_scanned starts.3
         has_masks claims in
         record {
@@ -234,7 +236,8 @@ module _ (plan : Layout) (named : Option StoreName) (image : Image) (some : 0 < 
         }
 
 -- the same by the page of its super blob
-pub loads : (plan : Layout) (named : Option StoreName) (image : Image) (blob : Option (List ℕ)) → blob ≡ page_of named
+pub loads : (plan : Layout) (named : Option StoreName) (image : Image) (blob : Option (List ℕ)) → blob
+    ≡ super_blob_page_of named
     → 0 < plan.md_pages → plan.md_pages ≤ 2 ^ 20 → AreReadable named → IsPlanned plan → IsLaidOut plan
     → UnloadedAreAccepted → ScanLaws → IsNewStore plan blob image → IsReadAsPlanned plan blob
     → LoadsAsPlanned plan named image

@@ -20,7 +20,7 @@ use Rattle.super_block.specs.declared.page.Super.{Super}
 use Rattle.store_model.specs.Maps.{Metas}
 use Rattle.store_model.specs.Places.{IsMapped, Unclaimed, UsedClusters, UsedPages}
 use Rattle.store_format.specs.NewStore.{first_masks, first_super}
-use Rattle.store_format.specs.SuperBlob.{new_chains, new_metas, page_of}
+use Rattle.store_format.specs.SuperBlob.{new_chains, new_metas, super_blob_page_of}
 use Rattle.store_format.specs.declared.super_blob.StoreName.{StoreName}
 
 -- ---- the numbers of the super block
@@ -115,7 +115,7 @@ long_first count len le =
 -- ---- what is claimed
 
 used_pages : (plan : Layout) (some : 0 < plan.md_pages) (named : Option StoreName)
-    → UsedPages plan.md_pages (first_masks plan (page_of named)).pages (new_chains named) []
+    → UsedPages plan.md_pages (first_masks plan (super_blob_page_of named)).pages (new_chains named) []
 used_pages plan some None = record {
   count = length-replicate plan.md_pages false;
   linked = λ place x. absurd (let bad = x.chain in cc bad);
@@ -169,7 +169,7 @@ used_clusters plan laid s has blob metas none =
     same_set (Some page) = refl
 
 heads_in : (plan : Layout) (some : 0 < plan.md_pages) (named : Option StoreName) (head : ℕ)
-    → (is_in (first_masks plan (page_of named)).blobs head ≡ true) ↔ IsSome (new_metas named head)
+    → (is_in (first_masks plan (super_blob_page_of named)).blobs head ≡ true) ↔ IsSome (new_metas named head)
 heads_in plan some None head = (
   λ is. absurd (both_ways _ (none_in plan.md_pages head) is),
   λ there. absurd (let bad : false ≡ true = there in cc bad),
@@ -192,17 +192,19 @@ clusters_long plan laid (Some page) = long_first plan.fixed_clusters plan.cluste
 
 -- the masks of a new store are what its metadata claims
 pub are_masks : (plan : Layout) → IsPlanned plan → IsLaidOut plan → 0 < plan.md_pages → (named : Option StoreName)
-    → (sum : ℕ) (s : Super) → s ≡ record (first_super plan (page_of named)) { crc = sum } → s.md_len ≡ plan.md_pages
+    → (sum : ℕ) (s : Super) → s ≡ record (first_super plan (super_blob_page_of named)) { crc = sum } → s.md_len
+    ≡ plan.md_pages
     → ((c : ℕ) → IsMapped (new_metas named) c → ⊥)
-    → AreMasks s (new_metas named) (new_chains named) (first_masks plan (page_of named))
+    → AreMasks s (new_metas named) (new_chains named) (first_masks plan (super_blob_page_of named))
 are_masks plan planned laid some named sum s is long none =
     let has : HasClusters plan s =
-    subst (HasClusters plan) (sym is) (first_clusters plan planned (page_of named) sum) in
+    subst (HasClusters plan) (sym is) (first_clusters plan planned (super_blob_page_of named) sum) in
     record {
       pages =
-          subst (λ (n : ℕ). UsedPages n (first_masks plan (page_of named)).pages (new_chains named) []) (sym long)
+          subst (λ (n : ℕ). UsedPages n (first_masks plan (super_blob_page_of named)).pages (new_chains named) [])
+          (sym long)
           (used_pages plan some named);
-      clusters = used_clusters plan laid s has (page_of named) (new_metas named) none;
-      count = heads_long plan (page_of named) ∙ sym long;
+      clusters = used_clusters plan laid s has (super_blob_page_of named) (new_metas named) none;
+      count = heads_long plan (super_blob_page_of named) ∙ sym long;
       blobs = λ head _. heads_in plan some named head;
     }

@@ -18,7 +18,7 @@ use Rattle.store_model.specs.Surviving.{HoldsMetadata}
 use Rattle.unclean_load.specs.Accepted.{IsAccepted}
 use Rattle.unclean_load.specs.Quick.{HasNoHeadBesideMask, IsQuick}
 use Rattle.page_runs.specs.Writing.{IsAnyBut, IsBetween}
-use Rattle.store_format.specs.SuperBlob.{new_chains, new_metas, page_of}
+use Rattle.store_format.specs.SuperBlob.{new_chains, new_metas, super_blob_page_of}
 use Rattle.store_format.specs.declared.fault.FormatFault.{FormatFault}
 use Rattle.store_format.specs.declared.fault.FormatFault.TheVariants as fault
 use Rattle.store_format.specs.declared.super_blob.StoreName.{StoreName}
@@ -45,14 +45,14 @@ first_masks plan (Some page) = record (new_masks plan) {
 }
 
 -- a page of zeros
-abbrev pub zero_page : List ℕ
-zero_page = replicate 4096 0
+abbrev pub zeroed_page : List ℕ
+zeroed_page = replicate 4096 0
 
 -- the metadata page at a place: that of the super blob, and else zeros
 abbrev pub md_page : Option (List ℕ) → ℕ → List ℕ
-md_page None place = zero_page
+md_page None place = zeroed_page
 md_page (Some page) zero = page
-md_page (Some page) (suc place) = zero_page
+md_page (Some page) (suc place) = zeroed_page
 
 -- a new store with this layout, and this page of its super blob, if it has one
 module _ (plan : Layout) (super_blob : Option (List ℕ)) where
@@ -90,9 +90,10 @@ IsUnderWay plan super_blob images image =
 -- stands. It says the super blob alone, if the store has a name, and else no blob; and whatever it says is that.
 pub record LoadsAsPlanned (plan : Layout) (named : Option StoreName) (image : Image) : Type 0 where
   pub sum : ℕ
-  pub super_is : super_of (image 0) plan.device_pages ≡ record (first_super plan (page_of named)) { crc = sum }
+  pub super_is : super_of (image 0) plan.device_pages
+      ≡ record (first_super plan (super_blob_page_of named)) { crc = sum }
   pub accepted : IsAccepted plan.device_pages image
-  pub quick : IsQuick (super_of (image 0) plan.device_pages) (first_masks plan (page_of named)) image
+  pub quick : IsQuick (super_of (image 0) plan.device_pages) (first_masks plan (super_blob_page_of named)) image
   pub no_head : HasNoHeadBesideMask (super_of (image 0) plan.device_pages) image
   pub holds : HoldsMetadata (super_of (image 0) plan.device_pages) (new_metas named) (new_chains named) image
   pub no_other : (metas : Metas) (chains : Chains)

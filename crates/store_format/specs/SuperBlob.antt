@@ -32,8 +32,8 @@ abbrev pub super_blob_page : StoreName → List ℕ
 super_blob_page named = page_written 0 0 (super_items named) chain_end
 
 -- the page of the super blob, if the store has a name
-abbrev pub page_of : Option StoreName → Option (List ℕ)
-page_of named = option_map super_blob_page named
+abbrev pub super_blob_page_of : Option StoreName → Option (List ℕ)
+super_blob_page_of named = option_map super_blob_page named
 
 -- the super blob alone has metadata, if the store has a name
 abbrev pub new_metas : Option StoreName → Metas

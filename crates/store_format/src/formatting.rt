@@ -9,7 +9,7 @@ ghost use Rattle.super_block.specs.Page.{super_bytes};
 ghost use Rattle.page_runs.specs.Writing.{IsBetween, SameBut, WritesOnly};
 ghost use Rattle.store_format.specs.NewStore.{first_masks, first_super, md_end_of, HasMetadata, HasNewRegions};
 ghost use Rattle.store_format.specs.NewStore.{IsCause, IsNewStore, IsReadAsPlanned, LoadsAsPlanned, Writes};
-ghost use Rattle.store_format.specs.SuperBlob.{page_of as page_said};
+ghost use Rattle.store_format.specs.SuperBlob.{super_blob_page_of as page_said};
 
 use crate::fault::FormatFault;
 use crate::super_blob::{StoreName, page_of};

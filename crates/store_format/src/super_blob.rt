@@ -2,7 +2,8 @@
 
 ghost use Rattle.std.specs.Prelude.{◌≡◌, IfOk, OnOk};
 ghost use Rattle.std.specs.Option.{option_copied};
-ghost use Rattle.store_format.specs.SuperBlob.{page_of as page_said, super_blob_page, AreReadable, IsReadable};
+ghost use Rattle.store_format.specs.SuperBlob.{super_blob_page, super_blob_page_of as page_said, AreReadable};
+ghost use Rattle.store_format.specs.SuperBlob.{IsReadable};
 
 use blob_meta::{new_meta, to_items};
 use descriptors::longest_runs_are_one;

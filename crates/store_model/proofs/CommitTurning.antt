@@ -15,7 +15,7 @@ use Rattle.md_chain.specs.Chain.{is_among}
 use Rattle.store_model.specs.Maps.{without_entry}
 use Rattle.store_model.specs.Rows.{Answered, Decided, Row}
 use Rattle.store_model.specs.StoreState.{JobState, StoreState, shown, logged, going_on}
-use Rattle.store_model.specs.Turning.{live_of, read_after}
+use Rattle.store_model.specs.Turning.{live_of, read_after_write}
 use Rattle.store_model.specs.WithReplaced.{with_replaced}
 use Rattle.store_model.specs.Cases.Commit.{Commits}
 use Rattle.store_model.specs.Shown.{fixed_of, volume_of}
@@ -152,9 +152,10 @@ module _ (known : Known) where
 
     shows : shown now ≡ w
     shows =
-        let at : t.device.reads ≡ read_after told p.device.reads (s.md_start + r.head) (page_in r.planned r.head) =
+        let at : t.device.reads
+        ≡ read_after_write told p.device.reads (s.md_start + r.head) (page_in r.planned r.head) =
         t.moves.reads ∙ ap (λ (y : Super).
-        read_after told p.device.reads (y.md_start + r.head) (page_in r.planned r.head)) facts.super in
+        read_after_write told p.device.reads (y.md_start + r.head) (page_in r.planned r.head)) facts.super in
         let same : shown_of p.super p.base p.live t.device.reads ≡ shown p = shown_written told s p t.device r.head
         (page_in r.planned r.head) facts.super facts.stored facts.lawful placed under at in
         let step = does.0.shows t.device.reads zeros_read in

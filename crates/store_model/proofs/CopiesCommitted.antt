@@ -9,7 +9,7 @@ use Rattle.super_block.specs.Numbers.{cluster_pages_of}
 use Rattle.blob_meta.specs.Parents.{slot}
 use Rattle.blob_meta.specs.Resolving.{resolved}
 use Rattle.md_chain.specs.Chain.{is_among}
-use Rattle.store_model.specs.Copying.{AreCopied, HasCopied, IsUpToDate, IsWanted, LeavesEmpty, page_of_claim}
+use Rattle.store_model.specs.Copying.{AreCopied, HasCopied, IsUpToDate, IsWanted, LeavesSlotsEmpty, page_of_claim}
 use Rattle.store_model.specs.Guarding.{all_renewed, AreClaimsDrawn}
 use Rattle.store_model.specs.Maps.{Map, Metas, with_entry}
 use Rattle.store_model.specs.Rows.{OpenClaim, Rows}
@@ -54,7 +54,7 @@ module _ (p q : StoreState) (copied : AreCopied p) (heads : List ℕ) (super : q
     (no_more : HaveNoMore (cluster_pages_of p.super) p.rows q.rows) where
   pub copied_committed : 0 < cluster_pages_of p.super → (Held : Image → Type 0) → Held p.device.reads
       → ((head : ℕ) → is_among head heads ≡ false
-      → LeavesEmpty p.super (resolved p.base) (resolved q.base) Held head) → AreCopied q
+      → LeavesSlotsEmpty p.super (resolved p.base) (resolved q.base) Held head) → AreCopied q
   copied_committed some Held holds leaves row claim held wanted page has =
       let k = cluster_pages_of p.super in
       let x = no_more row claim page (record {

@@ -29,7 +29,7 @@ use Rattle.store_model.specs.StoreState.{live_of, shown, StoreState}
 use Rattle.store_model.specs.Asking.{IsCreateJob}
 use Rattle.store_model.proofs.ShowsGiven.{none_childless}
 use Rattle.store_model.proofs.EmptySlots.{Anything, leaves_elsewhere, leaves_resolved}
-use Rattle.store_model.specs.Copying.{LeavesEmpty}
+use Rattle.store_model.specs.Copying.{LeavesSlotsEmpty}
 use Rattle.store_model.specs.Jobs.{IsStep, ReadsZeros, shown_of, with_clusters}
 use Rattle.store_model.specs.Steady.{AreSteady, CanBeWritten, IsSteady}
 use Rattle.store_model.specs.RunInvariant.{RunsWell}
@@ -225,7 +225,7 @@ module _ (known : Known) (unmarked : HasNoMarks known.p.base) where
       leaves = λ h out.
           leaves_resolved p.super p.base (replaced p.base r) Anything h (base_steady known unmarked)
           (subst (AreSteady p.super) (sym base_now) steady)
-          (subst (λ (m : Metas). LeavesEmpty p.super p.base m Anything h) (sym base_now)
+          (subst (λ (m : Metas). LeavesSlotsEmpty p.super p.base m Anything h) (sym base_now)
           (leaves_elsewhere p.super p.base head new
           (none_childless p.base head (base_lawful known unmarked).parents none) h (not_first h head [] out).0));
     }

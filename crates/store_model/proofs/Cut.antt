@@ -8,7 +8,7 @@ use Rattle.std.proofs.lemmas.Bool.{cases_lt, false≢true}
 use Rattle.std.proofs.lemmas.List.{append-nil, get_or-take, length-replicate, length-take-le, take_all}
 use Rattle.std.proofs.lemmas.List.Quantifiers.{position-Some}
 use Rattle.std.proofs.lemmas.Option.{slice_get_past}
-use Rattle.blob_meta.specs.Faults.{clusters_of, is_outside}
+use Rattle.blob_meta.specs.Faults.{clusters_held, is_outside}
 use Rattle.blob_meta.proofs.ClustersOutside.{clusters-append}
 use Rattle.shown_volumes.proofs.Inside.{passes}
 use Rattle.store_model.proofs.NewBlob.{empty_slot, none_in}
@@ -79,28 +79,28 @@ slot_was map slots i cluster at = elim (cases_lt i slots) [
 -- ---- tests of maps
 
 module _ (fixed clusters : ℕ) where
-  inside_take : (map : List (Option ℕ)) (n : ℕ) → find (is_outside fixed clusters) (clusters_of map) ≡ None
-      → find (is_outside fixed clusters) (clusters_of (take n map)) ≡ None
+  inside_take : (map : List (Option ℕ)) (n : ℕ) → find (is_outside fixed clusters) (clusters_held map) ≡ None
+      → find (is_outside fixed clusters) (clusters_held (take n map)) ≡ None
   inside_take [] zero none = refl
   inside_take [] (suc n) none = refl
   inside_take (s ∷ map) zero none = refl
   inside_take (None ∷ map) (suc n) none = inside_take map n none
   inside_take (Some c ∷ map) (suc n) none =
-      let parts = passes fixed clusters c (clusters_of map) none in
-      subst (λ (b : Bool). (if b then Some c else find (is_outside fixed clusters) (clusters_of (take n map))) ≡ None)
+      let parts = passes fixed clusters c (clusters_held map) none in
+      subst (λ (b : Bool). (if b then Some c else find (is_outside fixed clusters) (clusters_held (take n map))) ≡ None)
       (sym parts.0) (inside_take map n parts.1)
 
   -- no cluster lies outside that didn't
-  pub inside_cut : (map : List (Option ℕ)) (slots : ℕ) → find (is_outside fixed clusters) (clusters_of map) ≡ None
-      → find (is_outside fixed clusters) (clusters_of (cut map slots None)) ≡ None
+  pub inside_cut : (map : List (Option ℕ)) (slots : ℕ) → find (is_outside fixed clusters) (clusters_held map) ≡ None
+      → find (is_outside fixed clusters) (clusters_held (cut map slots None)) ≡ None
   inside_cut map slots none = elim (cases_lt (length map) slots) [
     | inl longer ↦
-        ap (λ m. find (is_outside fixed clusters) (clusters_of m)) (is_longer map slots None (omega (arith, longer)))
+        ap (λ m. find (is_outside fixed clusters) (clusters_held m)) (is_longer map slots None (omega (arith, longer)))
         ∙ ap (find (is_outside fixed clusters)) (clusters-append map (replicate (slots - length map) None)
-        ∙ ap (λ cs. clusters_of map ++ cs) (none_in (slots - length map)) ∙ append-nil (clusters_of map))
+        ∙ ap (λ cs. clusters_held map ++ cs) (none_in (slots - length map)) ∙ append-nil (clusters_held map))
         ∙ none
     | inr le ↦
-        ap (λ m. find (is_outside fixed clusters) (clusters_of m)) (is_cut map slots None le)
+        ap (λ m. find (is_outside fixed clusters) (clusters_held m)) (is_cut map slots None le)
         ∙ inside_take map slots none
   ]
 

@@ -31,7 +31,7 @@ use Rattle.blob_meta.specs.Jobs.{resized_meta}
 use Rattle.blob_meta.specs.Parents.{parent_of, slot}
 use Rattle.blob_meta.specs.Resolving.{resolved}
 use Rattle.store_model.specs.Maps.{Metas, with_entry}
-use Rattle.store_model.specs.Copying.{LeavesEmpty}
+use Rattle.store_model.specs.Copying.{LeavesSlotsEmpty}
 use Rattle.store_model.specs.Steady.{AreSteady}
 use Rattle.store_model.specs.Shown.{content, content_by}
 use Rattle.store_model.proofs.Cut.{slot_kept, slot_past}
@@ -62,7 +62,7 @@ module _ (s : Super) (metas others : Metas) (alike : (h : ℕ) → IsPlacedAlike
   was h page m (Some n) None is same there empty = absurd is
   was h page m None q is same there empty = absurd (cc same)
 
-  pub leaves_alike : (h : ℕ) → LeavesEmpty s metas others Anything h
+  pub leaves_alike : (h : ℕ) → LeavesSlotsEmpty s metas others Anything h
   leaves_alike h page m is empty =
       let x = was h page m (others h) (metas h) (alike h) is refl empty in
       record {
@@ -74,7 +74,7 @@ module _ (s : Super) (metas others : Metas) (alike : (h : ℕ) → IsPlacedAlike
 
 -- of other blobs than one that is nobody's parent
 pub leaves_elsewhere : (s : Super) (metas : Metas) (head : ℕ) (new : Meta) → IsChildless metas head → (h : ℕ) → h ≢ head
-    → LeavesEmpty s metas (with_entry metas head new) Anything h
+    → LeavesSlotsEmpty s metas (with_entry metas head new) Anything h
 leaves_elsewhere s metas head new childless h ne page m is empty = record {
   old = m;
   there = sym (given_elsewhere metas head new h ne) ∙ is;
@@ -120,7 +120,7 @@ module _ (s : Super) (metas : Metas) (head : ℕ) (old : Meta) (there : metas he
           (same_elsewhere k metas nexts head (λ q other. given_elsewhere metas head next q other) childless image image
           (λ _ _ _ _ _ _ _. refl) s.md_len page) there (parent_of old) refl)
 
-  pub leaves_given : LeavesEmpty s metas nexts Anything head
+  pub leaves_given : LeavesSlotsEmpty s metas nexts Anything head
   leaves_given page m is empty =
       let one : next ≡ m = let both = sym (given_here metas head next head refl) ∙ is in cc both in
       let none : slot next (page / k) ≡ None = ap (λ (x : Meta). slot x (page / k)) one ∙ empty in
@@ -129,7 +129,8 @@ module _ (s : Super) (metas : Metas) (head : ℕ) (old : Meta) (there : metas he
 
 -- metadata without marks is resolved
 pub leaves_resolved : (s : Super) (base later : Metas) (Held : Image → Type 0) (h : ℕ) → AreSteady s base
-    → AreSteady s later → LeavesEmpty s base later Held h → LeavesEmpty s (resolved base) (resolved later) Held h
+    → AreSteady s later → LeavesSlotsEmpty s base later Held h
+    → LeavesSlotsEmpty s (resolved base) (resolved later) Held h
 leaves_resolved s base later Held h steady steady_too leaves =
-    subst (λ (m : Metas). LeavesEmpty s m (resolved later) Held h) (sym (steady_resolved s base steady))
-    (subst (λ (m : Metas). LeavesEmpty s base m Held h) (sym (steady_resolved s later steady_too)) leaves)
+    subst (λ (m : Metas). LeavesSlotsEmpty s m (resolved later) Held h) (sym (steady_resolved s base steady))
+    (subst (λ (m : Metas). LeavesSlotsEmpty s base m Held h) (sym (steady_resolved s later steady_too)) leaves)

@@ -18,7 +18,7 @@ use Rattle.shown_volumes.specs.EmptySlots.{Anything}
 use Rattle.shown_volumes.specs.ShowsStep.{IsAtRest, part_of, replaces, ShowsStep}
 use Rattle.shown_volumes.specs.StoredLaws.{AreStoredWell}
 use Rattle.shown_volumes.proofs.PartsStored.{parts_stored, resolved_steady, steady_rest, steady_stored}
-use Rattle.store_model.specs.Copying.{LeavesEmpty}
+use Rattle.store_model.specs.Copying.{LeavesSlotsEmpty}
 use Rattle.store_model.specs.Jobs.{IsStep, shown_of}
 use Rattle.store_model.specs.Maps.{Metas}
 use Rattle.store_model.specs.Phases.{Committing, replaced, Replacing, with_live}
@@ -91,7 +91,7 @@ module _ (known : Known) (unmarked : HasNoMarks known.p.base) where
       before image = family.shows.before k early image
 
       leaves : (h : ℕ) → is_among h commit.renews ≡ false
-          → LeavesEmpty p.super (resolved p.base) (resolved (part job.commit)) Anything h
+          → LeavesSlotsEmpty p.super (resolved p.base) (resolved (part job.commit)) Anything h
       leaves h out = elim (family.gone h out) [
         | inl apart ↦ family.shows.leaves job.commit within h apart
         | inr none ↦ λ page m is. absurd (let bad = sym none ∙ is in cc bad)
@@ -116,7 +116,7 @@ module _ (known : Known) (unmarked : HasNoMarks known.p.base) where
             (ap (λ (u : Volumes). change f u command commit.reply h) (sym (before image)) ∙ is);
         renews = subst (λ (m : Metas). AllByRecursion (λ h. IsSome (m h)) commit.renews) (sym next) family.there;
         numbers = makes;
-        leaves = λ h out. subst (λ (m : Metas). LeavesEmpty p.super (resolved (part k)) (resolved m) Anything h)
-            (sym next) (subst (λ (m : Metas). LeavesEmpty p.super m (resolved (part job.commit)) Anything h)
+        leaves = λ h out. subst (λ (m : Metas). LeavesSlotsEmpty p.super (resolved (part k)) (resolved m) Anything h)
+            (sym next) (subst (λ (m : Metas). LeavesSlotsEmpty p.super m (resolved (part job.commit)) Anything h)
             (sym (family.shows.undone k early)) (leaves h out));
       }

@@ -8,9 +8,9 @@ use Rattle.blob_meta.specs.declared.meta.Meta.{Meta}
 use Rattle.blob_meta.specs.Repairs.{HasNoMarks}
 use Rattle.blob_meta.specs.Resolving.{mark_of, resolved}
 use Rattle.store_model.specs.Claiming.{stage_behind}
-use Rattle.store_model.specs.Copying.{AreCopied, HasCopied, LeavesEmpty}
+use Rattle.store_model.specs.Copying.{AreCopied, HasCopied, LeavesSlotsEmpty}
 use Rattle.store_model.specs.Inserting.{with_slot}
-use Rattle.store_model.specs.Jobs.{CanReplace, gained_by, InsertStands, JobStands, Lays, Puts, PutsClaim}
+use Rattle.store_model.specs.Jobs.{CanReplace, gained_by, InsertStands, JobStands, Lays, IsLeftOfInsert, PutsClaim}
 use Rattle.store_model.specs.Jobs.{shown_of}
 use Rattle.store_model.specs.Steady.{IsStored}
 use Rattle.store_model.specs.Maps.{Metas, with_entry}
@@ -19,7 +19,7 @@ use Rattle.store_model.specs.Phases.{Replaces, Replacing}
 use Rattle.store_model.specs.Rows.{OpenClaim, Row, Stage, with_row}
 use Rattle.store_model.specs.Shown.{content, fixed_of, shown_by}
 use Rattle.store_model.specs.StoreState.{going_on, JobState, shown, StoreState}
-use Rattle.store_model.specs.Turning.{read_after}
+use Rattle.store_model.specs.Turning.{read_after_write}
 use Rattle.store_model.specs.Cases.Insert.{Inserts}
 use Rattle.store_model.specs.RunInvariant.{RunsWell}
 use Rattle.store_model.proofs.CopiesCommitted.{copied_committed}
@@ -73,8 +73,8 @@ module _ (known : Known) where
     pub inserts : InsertStands p j row
     inserts = stood.inserts row serves
 
-    pub puts : Puts p row (Replaces r None ∷ rest)
-    puts = subst (Puts p row) t.running.next inserts.puts
+    pub puts : IsLeftOfInsert p row (Replaces r None ∷ rest)
+    puts = subst (IsLeftOfInsert p row) t.running.next inserts.puts
 
     pub put : PutsClaim p row r
     put = puts.0
@@ -154,9 +154,10 @@ module _ (known : Known) where
 
     pub shows : shown now ≡ shown p
     shows =
-        let at : t.device.reads ≡ read_after told p.device.reads (s.md_start + r.head) (page_in r.planned r.head) =
+        let at : t.device.reads
+        ≡ read_after_write told p.device.reads (s.md_start + r.head) (page_in r.planned r.head) =
         t.moves.reads ∙ ap (λ (y : Super).
-        read_after told p.device.reads (y.md_start + r.head) (page_in r.planned r.head)) facts.super in
+        read_after_write told p.device.reads (y.md_start + r.head) (page_in r.planned r.head)) facts.super in
         let same : shown_of p.super p.base p.live t.device.reads ≡ shown p = shown_written told s p t.device r.head
         (page_in r.planned r.head) facts.super facts.stored facts.lawful placed low at in
         ap (λ (m : Metas). shown_by (fixed_of p.super) t.device.reads m p.live) resolved_all
@@ -169,8 +170,8 @@ module _ (known : Known) where
     pub copied : AreCopied now
     copied = copied_committed mid now read [] refl refl p.generations (λ h n is. is) refl well.claims_drawn
         (row_unclaimed (cluster_pages_of p.super) p.rows row next refl) (some_pages known) Held holds
-        (λ h out. subst (λ (m : Metas). LeavesEmpty p.super m (resolved now.base) Held h)
+        (λ h out. subst (λ (m : Metas). LeavesSlotsEmpty p.super m (resolved now.base) Held h)
         (sym (base_resolved known inserts.unmarked))
-        (subst (λ (m : Metas). LeavesEmpty p.super p.base m Held h) (sym resolved_all)
+        (subst (λ (m : Metas). LeavesSlotsEmpty p.super p.base m Held h) (sym resolved_all)
         (leaves_inserted p.super (some_pages known) p.base claim.head old there ranks claim.slot claim.cluster
         put.within put.wanted.empty h)))

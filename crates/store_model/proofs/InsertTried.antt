@@ -14,7 +14,7 @@ use Rattle.store_model.specs.Rows.{with_row}
 use Rattle.store_model.specs.StoreState.{going_on, StoreState}
 use Rattle.store_model.specs.Surviving.{HoldsMetadata}
 use Rattle.store_model.specs.Touches.{read_now}
-use Rattle.store_model.specs.Turning.{page_of_place, read_after, Runs}
+use Rattle.store_model.specs.Turning.{page_of_place, read_after_write, Runs}
 use Rattle.store_model.specs.Cases.{inserts as kind_of_inserts}
 use Rattle.store_model.specs.Cases.Insert.{Inserts}
 use Rattle.store_model.specs.RunInvariant.{RunInvariant}
@@ -36,7 +36,7 @@ module _ {D : Type 0} (d : Ghosts D) (x : Over d) (r : Replacing) (running : Run
 
   abbrev would_read : Device
   would_read = record {
-    reads = read_after d.tells p.device.reads (page_of_place p r.head) (page_in r.planned r.head);
+    reads = read_after_write d.tells p.device.reads (page_of_place p r.head) (page_in r.planned r.head);
     clock = p.device.clock + 3;
     read_faults = p.device.read_faults;
     write_faults = p.device.write_faults;
@@ -70,8 +70,8 @@ module _ {D : Type 0} (d : Ghosts D) (x : Over d) (r : Replacing) (running : Run
 
   reads_new : would_read.reads ≡ with_head
   reads_new =
-      ap (λ (v : Device). read_after d.tells v.reads (page_of_place p r.head) (page_in r.planned r.head)) from_is
-      ∙ ap (λ b. read_after b (read_now d from) (p.super.md_start + r.head) (page_in r.planned r.head)) told
+      ap (λ (v : Device). read_after_write d.tells v.reads (page_of_place p r.head) (page_in r.planned r.head)) from_is
+      ∙ ap (λ b. read_after_write b (read_now d from) (p.super.md_start + r.head) (page_in r.planned r.head)) told
       ∙ ap (λ (i : Image). with_page i (p.super.md_start + r.head) (page_in r.planned r.head)) (told_reads d from told)
       ∙ ap (λ (y : Super). with_page (d.now from) (y.md_start + r.head) (page_in r.planned r.head)) facts.super
 

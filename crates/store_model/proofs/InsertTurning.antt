@@ -11,7 +11,8 @@ use Rattle.blob_meta.specs.Repairs.{HasNoMarks}
 use Rattle.blob_meta.specs.Resolving.{IsLawful, resolved, slots_together}
 use Rattle.store_model.specs.Claiming.{stage_behind}
 use Rattle.store_model.specs.Inserting.{with_slot}
-use Rattle.store_model.specs.Jobs.{CanReplace, gained_by, inserted_by, InsertStands, JobStands, Lays, Puts, PutsClaim}
+use Rattle.store_model.specs.Jobs.{CanReplace, gained_by, inserted_by, InsertStands, JobStands, Lays, IsLeftOfInsert}
+use Rattle.store_model.specs.Jobs.{PutsClaim}
 use Rattle.store_model.specs.Steady.{AreNamed, CanBeWritten, IsStored}
 use Rattle.store_model.specs.Maps.{Chains, Metas, with_entry}
 use Rattle.store_model.specs.Phases.{behind, held_in, Phase, rechained, replaced}
@@ -88,7 +89,7 @@ module _ (known : Known) where
     inserts : InsertStands p j row
     inserts = before.inserts known told q t
 
-    puts : Puts p row (Replaces r None ∷ rest)
+    puts : IsLeftOfInsert p row (Replaces r None ∷ rest)
     puts = before.puts known told q t
 
     abbrev put : PutsClaim p row r

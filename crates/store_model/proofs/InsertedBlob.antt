@@ -13,7 +13,7 @@ use Rattle.super_block.specs.declared.page.Super.{Super}
 use Rattle.blob_meta.specs.declared.meta.Meta.{Meta}
 use Rattle.blob_meta.specs.declared.fault.MetaFault.{MetaFault}
 use Rattle.blob_meta.specs.declared.fault.MetaFault.TheVariants as faults
-use Rattle.blob_meta.specs.Faults.{cluster_outside, clusters_of, hole_in_thick, is_outside, is_thin}
+use Rattle.blob_meta.specs.Faults.{cluster_outside, clusters_held, hole_in_thick, is_outside, is_thin}
 use Rattle.blob_meta.specs.Faults.{meta_fault, too_large}
 use Rattle.blob_meta.specs.Parents.{is_read_only, parent_of, slot}
 use Rattle.blob_meta.specs.Resolving.{IsLawful, slots_together}
@@ -41,16 +41,16 @@ module _ (fixed clusters cluster : ℕ) (inside : IsInside fixed clusters cluste
 
   -- no cluster lies outside
   inside_set : (map : List (Option ℕ)) (i : ℕ) → i < length map
-      → find (is_outside fixed clusters) (clusters_of map) ≡ None
-      → find (is_outside fixed clusters) (clusters_of (slice_set map i (Some cluster))) ≡ None
+      → find (is_outside fixed clusters) (clusters_held map) ≡ None
+      → find (is_outside fixed clusters) (clusters_held (slice_set map i (Some cluster))) ≡ None
   inside_set [] i lt none = absurd (omega (arith, lt))
   inside_set (None ∷ map) zero lt none = rw not_out none
-  inside_set (Some c ∷ map) zero lt none = rw not_out ((passes fixed clusters c (clusters_of map) none).1)
+  inside_set (Some c ∷ map) zero lt none = rw not_out ((passes fixed clusters c (clusters_held map) none).1)
   inside_set (None ∷ map) (suc i) lt none = inside_set map i (omega (arith, lt)) none
   inside_set (Some c ∷ map) (suc i) lt none =
-      let parts = passes fixed clusters c (clusters_of map) none in
+      let parts = passes fixed clusters c (clusters_held map) none in
       subst (λ (b : Bool). (if b then Some c
-      else find (is_outside fixed clusters) (clusters_of (slice_set map i (Some cluster)))) ≡ None)
+      else find (is_outside fixed clusters) (clusters_held (slice_set map i (Some cluster)))) ≡ None)
       (sym parts.0) (inside_set map i (omega (arith, lt)) parts.1)
 
 empty_at : (map : List (Option ℕ)) (i : ℕ) → i < length map → option_and_then (λ s. s) (slice_get map i) ≡ None
@@ -92,7 +92,7 @@ module _ (old : Meta) (i cluster : ℕ) (within : i < length old.map) (empty : s
       ap too_long (length-set old.map i (Some cluster)) ∙ was.few in
       let held : cluster_outside fixed clusters next.map ≡ None =
       ap (option_map faults.ClusterOutside) (inside_set fixed clusters cluster inside old.map i within
-      (none_of_map faults.ClusterOutside (find (is_outside fixed clusters) (clusters_of old.map)) was.map)) in
+      (none_of_map faults.ClusterOutside (find (is_outside fixed clusters) (clusters_held old.map)) was.map)) in
       let is = thin was.full in
       all_pass _ _ _ _ was.flags (rw (few, held) refl) (rw is refl) was.marks
     where

@@ -35,7 +35,7 @@ use Rattle.volume_model.specs.Volumes.{Page, Volume, zero_page}
 use Rattle.volume_model.specs.Xattrs.{Xattrs}
 use Rattle.blob_meta.specs.declared.meta.Meta.{Meta}
 use Rattle.blob_meta.specs.Parents.{parent_of, slot}
-use Rattle.store_model.specs.Copying.{LeavesEmpty}
+use Rattle.store_model.specs.Copying.{LeavesSlotsEmpty}
 use Rattle.store_model.specs.Inserting.{with_slot}
 use Rattle.store_model.specs.Maps.{Map, Metas, with_entry}
 use Rattle.store_model.specs.Shown.{content, content_by, fixed_of, shown_by, volume_of}
@@ -191,7 +191,7 @@ module _ (s : Super) (some : 0 < cluster_pages_of s) (metas : Metas) (head : ℕ
         others xs h (Some m) = ap (λ x. Some x) (same_volume xs h m)
 
   -- a slot that is empty then was empty, and shows what it showed
-  pub leaves_inserted : (h : ℕ) → LeavesEmpty s metas nexts Holds h
+  pub leaves_inserted : (h : ℕ) → LeavesSlotsEmpty s metas nexts Holds h
   leaves_inserted h page m is none = elim (cases_eq h head) [
     | inl e ↦
         let one : next ≡ m = let both = sym (given_here metas head next h e) ∙ is in cc both in

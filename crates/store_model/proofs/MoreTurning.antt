@@ -22,7 +22,7 @@ use Rattle.store_model.specs.Shown.{fixed_of, shown_by}
 use Rattle.store_model.specs.Steady.{IsStored}
 use Rattle.store_model.specs.StoreState.{ForCommand, ForInsert, ForRepair, going_on, JobState, Service, shown}
 use Rattle.store_model.specs.StoreState.{StoreState}
-use Rattle.store_model.specs.Turning.{read_after}
+use Rattle.store_model.specs.Turning.{read_after_write}
 use Rattle.store_model.specs.WithReplaced.{made_by, with_replaced}
 use Rattle.store_model.proofs.CopiesCommitted.{copied_unseen}
 use Rattle.store_model.proofs.ClustersMoved.{clusters_moved, differ_committed}
@@ -145,9 +145,10 @@ module _ (known : Known) where
 
     shows : shown now ≡ shown p
     shows =
-        let at : t.device.reads ≡ read_after told p.device.reads (s.md_start + r.head) (page_in r.planned r.head) =
+        let at : t.device.reads
+        ≡ read_after_write told p.device.reads (s.md_start + r.head) (page_in r.planned r.head) =
         t.moves.reads ∙ ap (λ (y : Super).
-        read_after told p.device.reads (y.md_start + r.head) (page_in r.planned r.head)) facts.super in
+        read_after_write told p.device.reads (y.md_start + r.head) (page_in r.planned r.head)) facts.super in
         let read : shown_of p.super p.base p.live t.device.reads ≡ shown p = shown_written told s p t.device r.head
         (page_in r.planned r.head) facts.super facts.stored facts.lawful placed under at in
         ap (λ (m : Metas). shown_by (fixed_of p.super) t.device.reads m p.live) unseen ∙ read

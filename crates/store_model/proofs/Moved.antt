@@ -35,7 +35,7 @@ use Rattle.store_model.specs.Places.{IsClaimed, UsedClusters, IsMapped}
 use Rattle.page_disk.specs.Disk.{Image}
 use Rattle.super_block.specs.Numbers.{cluster_pages_of}
 use Rattle.md_chain.specs.Chain.{is_among}
-use Rattle.store_model.specs.Jobs.{AreZeroed, gained_by, inserted_by, JobStands, Puts, zeros_in}
+use Rattle.store_model.specs.Jobs.{AreZeroed, gained_by, inserted_by, JobStands, IsLeftOfInsert, zeros_in}
 use Rattle.store_model.specs.Cases.{live_of}
 use Rattle.store_model.specs.RunInvariant.{CanBeWritten, RunsWell}
 use Rattle.store_model.proofs.Shows.{or_empty}
@@ -50,7 +50,7 @@ zeroed_still s claimed zeros image other same x page among out = same page among
 
 -- what is left of an insert, on a state with the same row
 pub puts_same : (p q : StoreState) → q.base ≡ p.base → q.generations ≡ p.generations → (row : ℕ)
-    → q.rows row ≡ p.rows row → (todo : List Phase) → Puts p row todo → Puts q row todo
+    → q.rows row ≡ p.rows row → (todo : List Phase) → IsLeftOfInsert p row todo → IsLeftOfInsert q row todo
 puts_same p q base generations row same [] puts = tt
 puts_same p q base generations row same (Replaces r commit ∷ rest) puts =
     let x = puts.0 in (

@@ -8,7 +8,7 @@ use Rattle.store_model.specs.Phases.{behind, OnlyMend, replaced}
 use Rattle.super_block.specs.declared.page.Super.{Super}
 use Rattle.store_model.specs.Maps.{Metas, Chains, Map}
 use Rattle.store_model.specs.StoreState.{StoreState}
-use Rattle.store_model.specs.Jobs.{Anything, AreOldPages, zeros_in, Lays, Keeps, Does, Puts}
+use Rattle.store_model.specs.Jobs.{Anything, AreOldPages, zeros_in, Lays, Keeps, Does, IsLeftOfInsert}
 use Rattle.page_disk.specs.Disk.{Image}
 use Rattle.volume_model.specs.Xattrs.{Xattrs}
 use Rattle.md_chain.specs.Chain.{is_among}
@@ -51,8 +51,8 @@ pub mends_behind : (fresh : List ℕ) (rest : List Phase) → OnlyMend rest → 
 mends_behind [] rest mends = mends
 mends_behind (p ∷ ps) rest mends = mends_behind ps rest mends
 
-pub puts_behind : (p : StoreState) (row : ℕ) (fresh : List ℕ) (rest : List Phase) → Puts p row rest
-    → Puts p row (writing fresh rest)
+pub puts_behind : (p : StoreState) (row : ℕ) (fresh : List ℕ) (rest : List Phase) → IsLeftOfInsert p row rest
+    → IsLeftOfInsert p row (writing fresh rest)
 puts_behind p row [] rest puts = puts
 puts_behind p row (x ∷ xs) rest puts = puts_behind p row xs rest puts
 
@@ -226,7 +226,7 @@ mends_no_commit (Frees place old ∷ rest) mends = mends_no_commit rest mends
 -- ---- behind an insert
 
 -- behind its replacement nothing is to be put
-pub puts_none : (p : StoreState) (row : ℕ) (todo : List Phase) → AreOldPages todo → Puts p row todo
+pub puts_none : (p : StoreState) (row : ℕ) (todo : List Phase) → AreOldPages todo → IsLeftOfInsert p row todo
 puts_none p row [] old = tt
 puts_none p row (Erases place ∷ rest) old = puts_none p row rest old
 puts_none p row (Frees place places ∷ rest) old = puts_none p row rest old

@@ -27,7 +27,7 @@ use Rattle.store_model.specs.Shown.{content, fixed_of}
 use Rattle.store_model.specs.Phases.{Committing, replaced, Replacing}
 use Rattle.store_model.specs.StoreState.{live_of, shown, StoreState}
 use Rattle.store_model.specs.Asking.{IsResizeJob}
-use Rattle.store_model.specs.Copying.{LeavesEmpty}
+use Rattle.store_model.specs.Copying.{LeavesSlotsEmpty}
 use Rattle.store_model.specs.Jobs.{IsStep, ReadsZeros, shown_of, with_clusters}
 use Rattle.store_model.specs.Steady.{AreSteady, CanBeWritten, IsSteady}
 use Rattle.store_model.specs.RunInvariant.{RunsWell}
@@ -202,9 +202,9 @@ module _ (known : Known) (unmarked : HasNoMarks known.p.base) where
       ]
 
     -- its empty slots, if none is cut, and those of others show what they showed
-    left_empty : (h : ℕ) → is_among h renews ≡ false → LeavesEmpty p.super p.base all Anything h
+    left_empty : (h : ℕ) → is_among h renews ≡ false → LeavesSlotsEmpty p.super p.base all Anything h
     left_empty h out = elim (cases_eq h head) [
-      | inl e ↦ subst (LeavesEmpty p.super p.base all Anything) (sym e)
+      | inl e ↦ subst (LeavesSlotsEmpty p.super p.base all Anything) (sym e)
           (leaves_given p.super p.base head old there childless new (ap (λ (m : Meta). parent_of m) zeroed.rest)
           (λ i none. resized_empty old slots (elim (cases_lt slots (length old.map)) [
             | inl cut ↦ absurd (false≢true (sym (subst (λ n. is_among n renews ≡ false) e out)
@@ -231,7 +231,7 @@ module _ (known : Known) (unmarked : HasNoMarks known.p.base) where
       leaves = λ h out.
           leaves_resolved p.super p.base (replaced p.base r) Anything h (base_steady known unmarked)
           (subst (AreSteady p.super) (sym base_now) steady)
-          (subst (λ (m : Metas). LeavesEmpty p.super p.base m Anything h) (sym base_now) (left_empty h out));
+          (subst (λ (m : Metas). LeavesSlotsEmpty p.super p.base m Anything h) (sym base_now) (left_empty h out));
     }
 
     pub ready : IsReady p claimed (c.Resize volume slots) commit new r

@@ -19,7 +19,7 @@ use Rattle.store_model.specs.Regions.{region_of}
 use Rattle.store_model.specs.Shown.{content, fixed_of, shown_by, volume_of}
 use Rattle.store_model.specs.Device.{Device}
 use Rattle.store_model.specs.StoreState.{StoreState, shown}
-use Rattle.store_model.specs.Cases.{read_after}
+use Rattle.store_model.specs.Cases.{read_after_write}
 use Rattle.store_model.specs.Agreeing.{AgreeOn}
 use Rattle.store_model.specs.Steady.{AreStored}
 use Rattle.store_model.proofs.Contents.{HasParents, same_content}
@@ -83,7 +83,7 @@ module _ (s : Super) (metas : Metas) (parents : HasParents metas) (faultless : A
 pub behind_region : (told : Bool) (s : Super) (image : Image) (place : ℕ) (page : List ℕ) → IsPlaced s
     → place < s.md_len
     → (q : ℕ) → fixed_clusters_of s * cluster_pages_of s ≤ q
-    → read_after told image (s.md_start + place) page q ≡ image q
+    → read_after_write told image (s.md_start + place) page q ≡ image q
 unfolding with_page
 behind_region true s image place page placed low q behind =
     let end = placed.md_end in
@@ -93,7 +93,8 @@ behind_region false s image place page placed low q behind = refl
 
 pub shown_written : (told : Bool) (s : Super) (p : StoreState) (d : Device) (place : ℕ) (page : List ℕ) → p.super ≡ s
     → AreStored s p.base → IsLawful s.md_len (resolved p.base) → IsPlaced s → place < s.md_len
-    → d.reads ≡ read_after told p.device.reads (s.md_start + place) page → shown (record p { device = d }) ≡ shown p
+    → d.reads ≡ read_after_write told p.device.reads (s.md_start + place) page → shown (record p { device = d })
+    ≡ shown p
 shown_written told s p d place page super stored lawful placed low reads =
     rw super (shown_same s (resolved p.base) lawful.parents (resolved_faultless s p.base stored)
     p.device.reads d.reads

@@ -40,7 +40,7 @@ use Rattle.store_model.proofs.OneReplacement.{
 }
 use Rattle.store_model.proofs.Synced.{alike_synced, syncs_to, shown_synced}
 use Rattle.store_model.proofs.EmptySlots.{Anything, leaves_alike, leaves_resolved}
-use Rattle.store_model.specs.Copying.{LeavesEmpty}
+use Rattle.store_model.specs.Copying.{LeavesSlotsEmpty}
 use Rattle.store_model.proofs.LiveSynced.{live_synced}
 use Rattle.volume_model.specs.declared.command.Command.{Command}
 use Rattle.volume_model.specs.declared.command.Command.TheVariants as c
@@ -146,7 +146,7 @@ module _ (known : Known) (unmarked : HasNoMarks known.p.base) where
       leaves = λ h _.
           leaves_resolved p.super p.base (replaced p.base r) Anything h (base_steady known unmarked)
           (subst (AreSteady p.super) (sym base_now) (all_steady known unmarked head new one_steady))
-          (subst (λ (m : Metas). LeavesEmpty p.super p.base m Anything h) (sym base_now)
+          (subst (λ (m : Metas). LeavesSlotsEmpty p.super p.base m Anything h) (sym base_now)
           (leaves_alike p.super p.base (with_entry p.base head new)
           (alike_synced p.base head asks.old new asks.after.synced (flags_after command asks.old.flags)
           asks.there asks.new_is) h));

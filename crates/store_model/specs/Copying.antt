@@ -16,8 +16,8 @@ use Rattle.store_model.specs.StoreState.{StoreState}
 -- ---- empty slots
 
 -- each slot of a blob that is empty with later metadata was empty, and shows what it showed
-abbrev pub LeavesEmpty : Super → Metas → Metas → (Image → Type 0) → ℕ → Type 0
-LeavesEmpty s = slots.LeavesEmpty (fixed_of s)
+abbrev pub LeavesSlotsEmpty : Super → Metas → Metas → (Image → Type 0) → ℕ → Type 0
+LeavesSlotsEmpty s = slots.LeavesEmpty (fixed_of s)
 
 -- ---- open claims
 

@@ -37,9 +37,9 @@ base head = if head == 0 then Some (meta_with []) else (if head == 3 then Some h
 pub is_marked : mark_of half_made ≡ Some (0 ∷ 0 ∷ 0 ∷ 0 ∷ 1 ∷ 0 ∷ 0 ∷ 0 ∷ [])
 is_marked = refl
 
-pub is_removed : resolved base 3 ≡ None
+pub head_3_is_removed : resolved base 3 ≡ None
 unfolding number
-is_removed = refl
+head_3_is_removed = refl
 
 -- ---- a job of two replacements
 
@@ -63,8 +63,8 @@ pub phases_are : todo ≡ Writes 5 ∷ Replaces first None ∷ Erases 6 ∷ Free
 phases_are = refl
 
 -- it holds both fresh places, and the old ones only once the first replacement is made
-pub holds : held_in todo ≡ 5 ∷ 8 ∷ []
-holds = refl
+pub holds_places : held_in todo ≡ 5 ∷ 8 ∷ []
+holds_places = refl
 
 pub holds_old : held_in (Erases 6 ∷ Frees 7 (6 ∷ 7 ∷ []) ∷ Writes 8 ∷ Replaces second (Some commit) ∷ [])
     ≡ 6 ∷ 7 ∷ 8 ∷ []

@@ -23,7 +23,7 @@ use Rattle.store_model.specs.Recovers.{IsChangeDone}
 use Rattle.store_model.specs.Rows.{InJob, IsForMetadata, OpenClaim, Rows}
 use Rattle.store_model.specs.Steady.{AreNamed, CanBeWritten, IsStored}
 use Rattle.store_model.specs.Inserting.{with_slot}
-use Rattle.store_model.specs.Copying.{IsWanted, LeavesEmpty}
+use Rattle.store_model.specs.Copying.{IsWanted, LeavesSlotsEmpty}
 use Rattle.store_model.specs.Places.{AreDistinct}
 use Rattle.store_model.specs.Phases.{Phase, Committing, with_live, Marks, Zeros, Writes, Replaces, Erases, Frees}
 use Rattle.store_model.specs.Phases.{Replacing, page_in, held_in, taken_in, has_commit, replaced, rechained, behind}
@@ -106,7 +106,7 @@ pub record IsStep (Holds : Image → Type 0) (s : Super) (base : Metas) (replaci
   pub numbers : replacing.makes ≡ true → is_among replacing.head commit.renews ≡ true
   -- what is copied of a slot stays its content: an empty one of a blob whose generation stays shows what it showed
   pub leaves : (head : ℕ) → is_among head commit.renews ≡ false
-      → LeavesEmpty s (resolved base) (resolved (replaced base replacing)) Anything head
+      → LeavesSlotsEmpty s (resolved base) (resolved (replaced base replacing)) Anything head
 
 -- The volumes are shown as they are up to the commit, and from it on as the command's step makes them, whatever a
 -- device holds of which this is known at the first replacement. Behind it nothing needs to be known.
@@ -152,11 +152,11 @@ AreOldPages (Frees place old ∷ rest) = AreOldPages rest
 AreOldPages _ = ⊥
 
 -- what is left of an insert's job: the replacement, if it is still to come, and behind it old pages alone
-abbrev pub Puts : StoreState → ℕ → List Phase → Type 0
-Puts p row [] = Unit {0}
-Puts p row (Zeros page ∷ rest) = ⊥
-Puts p row (Replaces r commit ∷ rest) = PutsClaim p row r × AreOldPages rest
-Puts p row (_ ∷ rest) = Puts p row rest
+abbrev pub IsLeftOfInsert : StoreState → ℕ → List Phase → Type 0
+IsLeftOfInsert p row [] = Unit {0}
+IsLeftOfInsert p row (Zeros page ∷ rest) = ⊥
+IsLeftOfInsert p row (Replaces r commit ∷ rest) = PutsClaim p row r × AreOldPages rest
+IsLeftOfInsert p row (_ ∷ rest) = IsLeftOfInsert p row rest
 
 -- The row waits for its insert, whose job freezes no blob and has claimed no cluster itself; no blob is marked.
 pub record InsertStands (p : StoreState) (j : JobState) (row : ℕ) : Type 0 where
@@ -164,7 +164,7 @@ pub record InsertStands (p : StoreState) (j : JobState) (row : ℕ) : Type 0 whe
   pub waits : (p.rows row).stage ≡ InJob
   pub thaws : j.freeze ≡ None
   pub unclaimed : j.claimed ≡ []
-  pub puts : Puts p row j.todo
+  pub puts : IsLeftOfInsert p row j.todo
 
 -- What is left of a running job can be done, on places that differ; its command waits for the commit, and behind that,
 -- or where it serves none, the volumes are shown as they are. Behind an insert they are so by what its cluster holds.

@@ -16,8 +16,8 @@ pub record MovesBytes (left left_now buffer : List ℕ) (n : ℕ) : Type 0 where
   pub end : n ≡ 0 → 0 < length buffer → left ≡ []
 
 -- the first n bytes of the piece are appended
-abbrev pub Appends : List ℕ → List ℕ → List ℕ → ℕ → Type 0
-Appends written written_now piece n = written_now ≡ written ++ take n piece
+abbrev pub AppendsBytes : List ℕ → List ℕ → List ℕ → ℕ → Type 0
+AppendsBytes written written_now piece n = written_now ≡ written ++ take n piece
 
 -- at most so many bytes are taken from the front
 pub record TakesAtMost (left left_now : List ℕ) (most : ℕ) : Type 0 where

@@ -3,7 +3,7 @@
 ghost use Rattle.std.specs.Prelude.{◌≡◌, ◌≤◌, ◌<◌, ◌+◌, ◌||◌, true, [], length, nat_lt, is_err, IfOk, OnErr, IsTrue};
 ghost use Rattle.page_disk.specs.Disk.{RoseByOne};
 ghost use Rattle.streams.specs.Lists.{is_failing};
-ghost use Rattle.streams.specs.Streams.{Caused, Appends};
+ghost use Rattle.streams.specs.Streams.{Caused, AppendsBytes};
 
 use crate::sink::{Sink, SinkFault};
 use out_of_memory::Memory;
@@ -68,7 +68,7 @@ impl Sink for ListSink {
     fn write(&mut self, from: &[u8]) -> Result<usize, SinkFault>
         ensures within { IfOk result (λ n. n ≤ length from.now) }
         ensures moves { IfOk result (λ n. 0 < length from.now → 0 < n) }
-        ensures written { IfOk result (λ n. Appends self.old.written self.new.written from.now n) }
+        ensures written { IfOk result (λ n. AppendsBytes self.old.written self.new.written from.now n) }
         ensures kept { OnErr result (self.new.written ≡ self.old.written) }
         ensures faults { Caused self.old.faults self.new.faults result }
         ensures counted { RoseByOne self.old.calls self.new.calls }

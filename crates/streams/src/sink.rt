@@ -1,7 +1,7 @@
 //! Where printed text goes.
 
 ghost use Rattle.std.specs.Prelude.{◌≡◌, ◌≤◌, ◌<◌, ℕ, List, Bool, IfOk, OnErr, IsTrue, length};
-ghost use Rattle.streams.specs.Streams.{Caused, Appends};
+ghost use Rattle.streams.specs.Streams.{Caused, AppendsBytes};
 
 /// The sink could not take the bytes.
 #[derive(Clone, Copy, Debug, PartialEq, Eq)]
@@ -23,7 +23,8 @@ pub trait Sink {
     fn write(&mut self, from: &[u8]) -> Result<usize, SinkFault>
         ensures within { IfOk result (λ n. n ≤ length from.now) }
         ensures moves { IfOk result (λ n. 0 < length from.now → 0 < n) }
-        ensures written { IsTrue tells → IfOk result (λ n. Appends (written self.old) (written self.new) from.now n) }
+        ensures written { IsTrue tells
+            → IfOk result (λ n. AppendsBytes (written self.old) (written self.new) from.now n) }
         ensures kept { IsTrue tells → OnErr result (written self.new ≡ written self.old) }
         ensures faults { Caused (faults self.old) (faults self.new) result };
 }

@@ -7,7 +7,7 @@ use Rattle.blob_meta.specs.declared.meta.Meta.{Meta}
 use Rattle.blob_meta.specs.Parents.{parent_of}
 use Rattle.store_model.specs.Maps.{Metas}
 use Rattle.unclean_load.specs.Parents.{ancestor, parent_at, ComesBack, HasRightParent, HaveRightParents}
-use Rattle.unclean_load.specs.Walks.{Ends}
+use Rattle.unclean_load.specs.Walks.{ParentsEnd}
 
 module _ (metas : Metas) where
   -- from a place on the way it goes on as it does from there
@@ -76,7 +76,8 @@ module _ (metas : Metas) where
   ]
 
   -- what goes on to a place where it ends, ends
-  pub ends_before : (head place i : ℕ) → ancestor metas head i ≡ Some place → Ends metas place → Ends metas head
+  pub ends_before : (head place i : ℕ) → ancestor metas head i ≡ Some place → ParentsEnd metas place
+      → ParentsEnd metas head
   ends_before head place i at x = record {
     steps = i + x.steps;
     last = x.last;
@@ -85,7 +86,7 @@ module _ (metas : Metas) where
   }
 
   -- and so does what comes behind
-  ends_behind : (head place i : ℕ) → ancestor metas head i ≡ Some place → Ends metas head → Ends metas place
+  ends_behind : (head place i : ℕ) → ancestor metas head i ≡ Some place → ParentsEnd metas head → ParentsEnd metas place
   ends_behind head place i at x =
       let few = within head x.steps x.last i place x.comes x.no_further at in
       let e : i + (x.steps - i) ≡ x.steps = omega (arith, few) in
@@ -96,7 +97,8 @@ module _ (metas : Metas) where
         no_further = x.no_further;
       }
 
-  steps_behind : (head place i : ℕ) → ancestor metas head i ≡ Some place → (x : Ends metas head) (y : Ends metas place)
+  steps_behind : (head place i : ℕ) → ancestor metas head i ≡ Some place
+      → (x : ParentsEnd metas head) (y : ParentsEnd metas place)
       → i + y.steps ≡ x.steps
   steps_behind head place i at x y =
       let through : ancestor metas head (i + y.steps) ≡ Some y.last = onward head place i y.steps at ∙ y.comes in
@@ -105,7 +107,7 @@ module _ (metas : Metas) where
       omega (arith, a, b)
 
   -- where it ends it never comes back
-  pub ends_never_back : (head : ℕ) → Ends metas head → ComesBack metas head → ⊥
+  pub ends_never_back : (head : ℕ) → ParentsEnd metas head → ComesBack metas head → ⊥
   ends_never_back head x back =
       let y = ends_behind head back.place back.first back.at_first x in
       let a = steps_behind head back.place back.first back.at_first x y in
@@ -114,20 +116,20 @@ module _ (metas : Metas) where
       absurd (omega (arith, a, b, later))
 
   -- a place from which it goes no further ends it, and so does one whose parent isn't there
-  pub ends_here : (place : ℕ) → ((p : ℕ) → parent_at metas place ≡ Some p → metas p ≡ None) → Ends metas place
+  pub ends_here : (place : ℕ) → ((p : ℕ) → parent_at metas place ≡ Some p → metas p ≡ None) → ParentsEnd metas place
   ends_here place none = by (parent_at metas place) refl
     where
-      by : (o : Option ℕ) → parent_at metas place ≡ o → Ends metas place
+      by : (o : Option ℕ) → parent_at metas place ≡ o → ParentsEnd metas place
       by None is = record { steps = zero; last = place; comes = refl; no_further = is }
       by (Some p) is =
           record { steps = suc zero; last = p; comes = is; no_further = no_blob_ends p (none p is) }
 
   module _ (right : (head : ℕ) (m : Meta) → metas head ≡ Some m → HasRightParent metas m)
-      (ends : (head : ℕ) (m : Meta) → metas head ≡ Some m → Ends metas head) where
-    ends_all : (head : ℕ) → Ends metas head
+      (ends : (head : ℕ) (m : Meta) → metas head ≡ Some m → ParentsEnd metas head) where
+    ends_all : (head : ℕ) → ParentsEnd metas head
     ends_all head = by (metas head) refl
       where
-        by : (o : Option Meta) → metas head ≡ o → Ends metas head
+        by : (o : Option Meta) → metas head ≡ o → ParentsEnd metas head
         by None there =
             record { steps = zero; last = head; comes = refl; no_further = no_blob_ends head there }
         by (Some m) there = ends head m there

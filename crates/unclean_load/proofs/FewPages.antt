@@ -13,7 +13,7 @@ use Rattle.store_model.specs.Maps.{Metas, Chains}
 use Rattle.store_model.specs.Places.{AreDistinct}
 use Rattle.store_model.specs.Regions.{region_of}
 use Rattle.unclean_load.specs.Heads.{PlaceSays}
-use Rattle.unclean_load.specs.Reads.{pages_together, tests}
+use Rattle.unclean_load.specs.Reads.{pages_together, reads_to_test}
 use Rattle.unclean_load.specs.declared.heads.Heads.{Heads}
 use Rattle.unclean_load.specs.declared.heads.Heads.TheVariants.{ByScan, Listed}
 use Rattle.unclean_load.proofs.PlaceSays.{apart_below}
@@ -37,11 +37,13 @@ pages_same chains other place same =
     sum_same (pages_at chains) (pages_at other) place
     (λ k lt. ap (λ (o : Option (List ℕ)). option_map_or (λ (pages : List ℕ). length pages) o 0) (same k lt))
 
-pub tests_more : (heads : Heads) (place : ℕ) → tests heads (place + 1) ≡ tests heads place + tests heads 1
+pub tests_more : (heads : Heads) (place : ℕ) → reads_to_test heads (place + 1)
+    ≡ reads_to_test heads place + reads_to_test heads 1
 tests_more ByScan place = refl
 tests_more (Listed places) place = refl
 
-pub tests_within : (heads : Heads) (place end : ℕ) → place < end → tests heads place + tests heads 1 ≤ tests heads end
+pub tests_within : (heads : Heads) (place end : ℕ) → place < end
+    → reads_to_test heads place + reads_to_test heads 1 ≤ reads_to_test heads end
 tests_within ByScan place end lt = omega (arith, lt)
 tests_within (Listed places) place end lt = omega arith
 

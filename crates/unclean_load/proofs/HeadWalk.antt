@@ -24,7 +24,7 @@ use Rattle.unclean_load.specs.declared.heads.Heads.{Heads}
 use Rattle.unclean_load.specs.Heads.{AreWholeBelow, PlaceSays}
 use Rattle.unclean_load.specs.Reading.{SaysAt, AreRead, HasNoneFrom, IsChainOf}
 use Rattle.unclean_load.specs.Reading.{meta_in, chain_in}
-use Rattle.unclean_load.specs.Reads.{pages_together, tests}
+use Rattle.unclean_load.specs.Reads.{pages_together, reads_to_test}
 use Rattle.running_store.proofs.Maps.{insert_given}
 use Rattle.unclean_load.proofs.Taken.{stored, chain_of_region}
 use Rattle.unclean_load.proofs.FewPages.{pages_at, pages_more, pages_same, tests_more}
@@ -35,7 +35,7 @@ pub record Walked {D : Type 0} (d : Ghosts D) (s : Super) (heads : Heads) (first
     (chains : Chains) (slots place : ℕ) : Type 0 where
   pub same : OnlyRead d first disk
   pub quiet : d.read_faults disk ≡ d.read_faults first
-  pub reads : d.reads disk ≤ d.reads first + tests heads place + pages_together place chains
+  pub reads : d.reads disk ≤ d.reads first + reads_to_test heads place + pages_together place chains
   pub told : IsTrue d.tells → AreWholeBelow (region_look s (d.now first)) (region_of s) heads place metas chains
   pub read : AreRead s metas chains
   pub none : HasNoneFrom metas place
@@ -117,7 +117,7 @@ module _ {D : Type 0} (d : Ghosts D) (s : Super) (heads : Heads) (first : D) whe
           omega (arith, x, y)
 
       -- there is no blob at the place
-      pub none_there : d.reads new ≤ d.reads disk + tests heads 1 → SaysAt d s disk heads place None
+      pub none_there : d.reads new ≤ d.reads disk + reads_to_test heads 1 → SaysAt d s disk heads place None
           → Walked d s heads first new metas chains slots (place + 1)
       none_there more x = record {
         same = read_on d first disk new w.same on;
@@ -150,7 +150,7 @@ module _ {D : Type 0} (d : Ghosts D) (s : Super) (heads : Heads) (first : D) whe
 
       -- ---- the place has a blob
 
-      module _ (blob : Blob) (more : d.reads new ≤ d.reads disk + tests heads 1 + length blob.pages)
+      module _ (blob : Blob) (more : d.reads new ≤ d.reads disk + reads_to_test heads 1 + length blob.pages)
           (x : SaysAt d s disk heads place (Some blob)) (few : slots + length blob.meta.map ≤ 2 ^ 24) where
         abbrev metas_now : Metas
         metas_now = with_entry metas place blob.meta

@@ -10,14 +10,14 @@ use Rattle.blob_meta.specs.Repairs.{HasHeadsBelow}
 use Rattle.blob_meta.specs.Resolving.{mark_of}
 use Rattle.store_model.specs.Maps.{Metas}
 use Rattle.store_model.proofs.WithEntry.{given_here, given_elsewhere}
-use Rattle.running_store.specs.Recovered.{marked}
+use Rattle.running_store.specs.Recovered.{marked_blobs}
 use Rattle.running_store.proofs.Maps.{insert_given}
 
 -- ---- heads upwards
 
 -- of the heads below one a map has just the marked blobs
 pub record IsMarkedBelow (metas : Metas) (found : map.FinMap nat_cmp Meta) (end : ℕ) : Type 0 where
-  pub before : (k : ℕ) → k < end → map.get found k ≡ marked metas k
+  pub before : (k : ℕ) → k < end → map.get found k ≡ marked_blobs metas k
   pub none : (k : ℕ) → end ≤ k → map.get found k ≡ None
 
 module _ (metas : Metas) (found : map.FinMap nat_cmp Meta) where
@@ -29,15 +29,15 @@ module _ (metas : Metas) (found : map.FinMap nat_cmp Meta) where
   }
 
   marked_at : (k : ℕ) (o : Option Meta) → metas k ≡ o
-      → marked metas k ≡ option_and_then (λ (m : Meta). option_map (λ _. m) (mark_of m)) o
+      → marked_blobs metas k ≡ option_and_then (λ (m : Meta). option_map (λ _. m) (mark_of m)) o
   marked_at k o there = ap (option_and_then (λ (m : Meta). option_map (λ _. m) (mark_of m))) there
 
   module _ (head : ℕ) (b : IsMarkedBelow metas found head) where
     -- no marked blob is at the head
-    pub marked_same : marked metas head ≡ None → IsMarkedBelow metas found (head + 1)
+    pub marked_same : marked_blobs metas head ≡ None → IsMarkedBelow metas found (head + 1)
     marked_same none = record {
       before = λ k lt. elim (cases_eq k head) [
-        | inl e ↦ b.none k (omega (arith, e)) ∙ sym (ap (marked metas) e ∙ none)
+        | inl e ↦ b.none k (omega (arith, e)) ∙ sym (ap (marked_blobs metas) e ∙ none)
         | inr ne ↦ b.before k (omega (arith, lt, ne))
       ];
       none = λ k le. b.none k (omega (arith, le));
@@ -57,7 +57,7 @@ module _ (metas : Metas) (found : map.FinMap nat_cmp Meta) where
       before = λ k lt. elim (cases_eq k head) [
         | inl e ↦
             ap (λ f. f k) (insert_given found head m) ∙ given_here (map.get found) head m k e
-            ∙ sym (ap (marked metas) e ∙ marked_at head (Some m) there ∙ ap (option_map (λ _. m)) has)
+            ∙ sym (ap (marked_blobs metas) e ∙ marked_at head (Some m) there ∙ ap (option_map (λ _. m)) has)
         | inr ne ↦
             ap (λ f. f k) (insert_given found head m) ∙ given_elsewhere (map.get found) head m k ne
             ∙ b.before k (omega (arith, lt, ne))
@@ -70,13 +70,13 @@ module _ (metas : Metas) (found : map.FinMap nat_cmp Meta) where
 
   -- all heads were looked at
   pub marked_all : (md_len : ℕ) → HasHeadsBelow md_len metas → IsMarkedBelow metas found md_len → (k : ℕ)
-      → map.get found k ≡ marked metas k
+      → map.get found k ≡ marked_blobs metas k
   marked_all md_len below b k = elim (cases_lt k md_len) [
     | inl lt ↦ b.before k lt
     | inr ge ↦ b.none k ge ∙ sym (by (metas k) refl ge)
   ]
     where
-      by : (o : Option Meta) → metas k ≡ o → md_len ≤ k → marked metas k ≡ None
+      by : (o : Option Meta) → metas k ≡ o → md_len ≤ k → marked_blobs metas k ≡ None
       by None there ge = marked_at k None there
       by (Some m) there ge =
           let lt = below k (subst IsSome (sym there) refl) in absurd (omega (arith, lt, ge))

@@ -20,7 +20,7 @@ use Rattle.blob_meta.proofs.Fates.{Fate, fate}
 use Rattle.blob_meta.proofs.MarksLifted.{no_mark}
 use Rattle.store_model.specs.Maps.{Metas}
 use Rattle.store_model.specs.Steady.{IsStored}
-use Rattle.running_store.specs.Recovered.{marked}
+use Rattle.running_store.specs.Recovered.{marked_blobs}
 use Rattle.store_model.proofs.Inside.{none_of_map}
 use Rattle.unclean_load.specs.Sharing.{AreAllInside, copies_in}
 use Rattle.unclean_load.specs.Walks.{HaveLongMarks}
@@ -194,17 +194,18 @@ resolved_fewer md_len read = sum_le _ _ md_len (λ head. fewer_at read head)
 -- ---- marked blobs beside the result
 
 -- the marked blobs over the result are what was read
-pub base_again : (read : Metas) (head : ℕ) → option_or (marked read head) (resolved read head) ≡ read head
+pub base_again : (read : Metas) (head : ℕ) → option_or (marked_blobs read head) (resolved read head) ≡ read head
 base_again read head = by (fate read head)
   where
     marked_at : (o : Option Meta) → read head ≡ o
-        → marked read head ≡ option_and_then (λ (m : Meta). option_map (λ _. m) (mark_of m)) o
+        → marked_blobs read head ≡ option_and_then (λ (m : Meta). option_map (λ _. m) (mark_of m)) o
     marked_at o there = ap (option_and_then (λ (m : Meta). option_map (λ _. m) (mark_of m))) there
 
-    is_marked : (m : Meta) (mark : List ℕ) → read head ≡ Some m → mark_of m ≡ Some mark → marked read head ≡ Some m
+    is_marked : (m : Meta) (mark : List ℕ) → read head ≡ Some m → mark_of m ≡ Some mark → marked_blobs read head
+        ≡ Some m
     is_marked m mark there has = marked_at (Some m) there ∙ ap (option_map (λ _. m)) has
 
-    by : Fate read head → option_or (marked read head) (resolved read head) ≡ read head
+    by : Fate read head → option_or (marked_blobs read head) (resolved read head) ≡ read head
     by (inl x) = ap (λ o. option_or o (resolved read head)) (marked_at None x.there) ∙ x.gives ∙ sym x.there
     by (inr (inl x)) =
         ap (λ o. option_or o (resolved read head))

@@ -9,7 +9,7 @@ use Rattle.blob_meta.specs.Repairs.{HasHeadsBelow}
 use Rattle.store_model.specs.Maps.{Metas}
 use Rattle.unclean_load.specs.declared.fault.LoadFault.{LoadFault}
 use Rattle.unclean_load.specs.Parents.{HasRightParent, HaveRightParents, ShowsParent, ShowsParentFirst}
-use Rattle.unclean_load.specs.Walks.{AreWalked, Ends}
+use Rattle.unclean_load.specs.Walks.{AreWalked, ParentsEnd}
 use Rattle.unclean_load.proofs.Ancestors.{ends_never_back, right_parents}
 use Rattle.unclean_load.proofs.WalkSteps.{none_walked}
 
@@ -18,7 +18,7 @@ pub record Tested (metas : Metas) (begun : List (Option ℕ)) (head count : ℕ)
   pub length_is : length begun ≡ count
   pub walked : AreWalked metas begun head
   pub right : (k : ℕ) (m : Meta) → k < head → metas k ≡ Some m → HasRightParent metas m
-  pub ends : (k : ℕ) (m : Meta) → k < head → metas k ≡ Some m → Ends metas k
+  pub ends : (k : ℕ) (m : Meta) → k < head → metas k ≡ Some m → ParentsEnd metas k
 
 -- none was tested so far
 pub none_tested : (metas : Metas) (begun : List (Option ℕ)) (n : ℕ) → begun ≡ replicate n None
@@ -51,7 +51,7 @@ module _ (metas : Metas) (begun : List (Option ℕ)) (head count : ℕ) (t : Tes
 
   -- the blob at the head is right, and following parents from it ends
   pub one_tested : (new : List (Option ℕ)) (meta : Meta) → metas head ≡ Some meta → length new ≡ length begun
-      → HasRightParent metas meta → Ends metas head → AreWalked metas new (head + 1)
+      → HasRightParent metas meta → ParentsEnd metas head → AreWalked metas new (head + 1)
       → Tested metas new (head + 1) count
   one_tested new meta is same right ends walked = record {
     length_is = same ∙ t.length_is;
@@ -63,7 +63,7 @@ module _ (metas : Metas) (begun : List (Option ℕ)) (head count : ℕ) (t : Tes
       | inr ne ↦ t.right k m (omega (arith, lt, ne)) there
     ];
     ends = λ k m lt there. elim (cases_eq k head) [
-      | inl e ↦ subst (Ends metas) (sym e) ends
+      | inl e ↦ subst (ParentsEnd metas) (sym e) ends
       | inr ne ↦ t.ends k m (omega (arith, lt, ne)) there
     ];
   }

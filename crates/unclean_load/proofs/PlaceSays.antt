@@ -17,7 +17,7 @@ use Rattle.store_model.proofs.Scanning.{chain_of, is_at}
 use Rattle.store_model.specs.Maps.{Metas, Chains}
 use Rattle.store_model.specs.Regions.{MdRegion}
 use Rattle.store_model.specs.Scans.{BlobAt, Scanned, SomeBlob, head_at}
-use Rattle.unclean_load.specs.Heads.{AreWhole, AreWholeBelow, HeadsFit, PlaceSays, has_head}
+use Rattle.unclean_load.specs.Heads.{AreWhole, AreWholeBelow, PlacesFit, PlaceSays, has_head}
 use Rattle.unclean_load.specs.Quick.{HasNoOtherHead}
 use Rattle.unclean_load.specs.declared.heads.Heads.{Heads}
 use Rattle.unclean_load.specs.declared.heads.Heads.TheVariants.{ByScan, Listed}
@@ -87,7 +87,7 @@ module _ (look : Look) (r : MdRegion) (heads : Heads) (metas : Metas) (chains : 
 
 -- blobs that are whole below the region's end, with none behind it, are whole
 pub whole_region : (look : Look) (r : MdRegion) (heads : Heads) (metas : Metas) (chains : Chains)
-    → HeadsFit r.len heads → AreWholeBelow look r heads r.len metas chains
+    → PlacesFit r.len heads → AreWholeBelow look r heads r.len metas chains
     → ((h : ℕ) → r.len ≤ h → metas h ≡ None) → ((h : ℕ) → metas h ≡ None → chains h ≡ None)
     → AreWhole look r heads metas chains
 whole_region look r heads metas chains fit below none no_chain = record {
@@ -103,7 +103,7 @@ whole_region look r heads metas chains fit below none no_chain = record {
   few = below.few;
 }
   where
-    behind : (heads : Heads) → HeadsFit r.len heads → (h : ℕ) → r.len ≤ h → has_head heads look r.len h ≡ false
+    behind : (heads : Heads) → PlacesFit r.len heads → (h : ℕ) → r.len ≤ h → has_head heads look r.len h ≡ false
     behind ByScan fit h ge = let out : nat_lt h r.len ≡ false = grind (arith, nat_tests) in rw out refl
     behind (Listed places) fit h ge = get_or_past places h false (omega (arith, fit, ge))
 

@@ -12,7 +12,7 @@ use Rattle.blob_meta.specs.Repairs.{HasHeadsBelow}
 use Rattle.blob_meta.specs.Resolving.{IsLawful, slots_together}
 use Rattle.blob_meta.specs.SlotCounts.{HeadsFit}
 use Rattle.store_model.specs.Maps.{Metas, Chains}
-use Rattle.running_store.specs.Recovered.{IsRecovered, base_of, marked}
+use Rattle.running_store.specs.Recovered.{IsRecovered, base_of, marked_blobs}
 use Rattle.unclean_load.specs.Parents.{HaveRightParents}
 use Rattle.unclean_load.specs.Sharing.{copies}
 use Rattle.unclean_load.proofs.OfResolved.{base_again}
@@ -45,4 +45,4 @@ pub base_read : (s : Super) (read : Metas) (links : Chains) (metas gone marked_t
     → base_of metas marked_too ≡ read
 base_read s read links metas gone marked_too list used x = fun_ext (λ h.
     ap (λ f. option_or (f h) (map.get metas h)) (sym x.marks)
-    ∙ ap (λ f. option_or (marked read h) (f h)) (sym x.resolves) ∙ base_again read h)
+    ∙ ap (λ f. option_or (marked_blobs read h) (f h)) (sym x.resolves) ∙ base_again read h)

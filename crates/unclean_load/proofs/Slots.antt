@@ -13,7 +13,7 @@ use Rattle.store_model.specs.Maps.{Metas}
 use Rattle.store_model.specs.Places.{IsMapped}
 use Rattle.store_model.specs.Steady.{IsStored}
 use Rattle.store_model.proofs.Inside.{inside_slot}
-use Rattle.unclean_load.specs.Sharing.{holds, copies_in, copies, AreAllInside}
+use Rattle.unclean_load.specs.Sharing.{has_cluster, copies_in, copies, AreAllInside}
 use Rattle.unclean_load.proofs.Counts.{copies_none, copies_some, copies_grow}
 
 -- ---- one map
@@ -23,7 +23,7 @@ abbrev HasAt : List (Option ℕ) → ℕ → ℕ → Type 0
 HasAt slots i c = slice_get slots i ≡ Some (Some c)
 
 first_slot : (c : ℕ) (s : Option ℕ) (slots : List (Option ℕ))
-    → copies_in c (s ∷ slots) ≡ cond (holds c s) 1 0 + copies_in c slots
+    → copies_in c (s ∷ slots) ≡ cond (has_cluster c s) 1 0 + copies_in c slots
 first_slot c s slots = sum_by-cons _ s slots
 
 first_has : (c : ℕ) (slots : List (Option ℕ)) → copies_in c (Some c ∷ slots) ≡ 1 + copies_in c slots

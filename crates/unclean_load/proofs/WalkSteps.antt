@@ -11,7 +11,7 @@ use Rattle.std.proofs.Math.ListN.{get_or-eq_default}
 use Rattle.std.proofs.lemmas.Bool.{cases_lt}
 use Rattle.store_model.specs.Maps.{Metas}
 use Rattle.unclean_load.specs.Parents.{ancestor, parent_at, ComesBack}
-use Rattle.unclean_load.specs.Walks.{AreWalked, Ends, first_walk}
+use Rattle.unclean_load.specs.Walks.{AreWalked, ParentsEnd, first_walk}
 use Rattle.unclean_load.proofs.Ancestors.{ends_before, ends_here, onward}
 
 -- ---- places to which no walk came
@@ -66,7 +66,7 @@ pub record Walking (metas : Metas) (begun : List (Option ℕ)) (head at count : 
   pub here : ancestor metas head steps ≡ Some at
   pub there : IsSome (metas at)
   pub low : (place first : ℕ) → first_walk begun place ≡ Some first → first ≤ head
-  pub earlier : (place first : ℕ) → first_walk begun place ≡ Some first → first ≢ head → Ends metas place
+  pub earlier : (place first : ℕ) → first_walk begun place ≡ Some first → first ≢ head → ParentsEnd metas place
   pub own : (place : ℕ) → first_walk begun place ≡ Some head → OnWay metas head place at
 
 -- it begins at its head
@@ -84,11 +84,11 @@ walk_begins metas begun head w there = record {
 
 module _ (metas : Metas) (begun : List (Option ℕ)) (head at count : ℕ) (w : Walking metas begun head at count) where
   -- what ends where the walk is ended for all places to which walks came
-  module _ (ends : Ends metas at) where
-    pub ended_here : Ends metas head
+  module _ (ends : ParentsEnd metas at) where
+    pub ended_here : ParentsEnd metas head
     ended_here = ends_before metas head at w.steps w.here ends
 
-    place_ended : (place first : ℕ) → first_walk begun place ≡ Some first → Ends metas place
+    place_ended : (place first : ℕ) → first_walk begun place ≡ Some first → ParentsEnd metas place
     place_ended place first is = elim (cases_eq first head) [
       | inl e ↦
           let x = w.own place (is ∙ ap (λ (n : ℕ). Some n) e) in
@@ -117,7 +117,7 @@ module _ (metas : Metas) (begun : List (Option ℕ)) (head at count : ℕ) (w : 
       }
 
   -- it came to a place of an earlier one
-  pub came_to_end : (first : ℕ) → first_walk begun at ≡ Some first → first ≢ head → Ends metas at
+  pub came_to_end : (first : ℕ) → first_walk begun at ≡ Some first → first ≢ head → ParentsEnd metas at
   came_to_end first is ne = w.earlier at first is ne
 
   -- ---- the place is noted
@@ -138,7 +138,7 @@ module _ (metas : Metas) (begun : List (Option ℕ)) (head at count : ℕ) (w : 
       | inr ne ↦ w.low place first (sym (noted_elsewhere place ne) ∙ is)
     ]
 
-    noted_earlier : (place first : ℕ) → first_walk noted place ≡ Some first → first ≢ head → Ends metas place
+    noted_earlier : (place first : ℕ) → first_walk noted place ≡ Some first → first ≢ head → ParentsEnd metas place
     noted_earlier place first is other = elim (cases_eq place at) [
       | inl e ↦ absurd (other (let x = sym is ∙ noted_here place e in cc x))
       | inr ne ↦ w.earlier place first (sym (noted_elsewhere place ne) ∙ is) other
@@ -174,14 +174,14 @@ module _ (metas : Metas) (begun : List (Option ℕ)) (head at count : ℕ) (w : 
 
     module _ (last : (p : ℕ) → parent_at metas at ≡ Some p → metas p ≡ None) where
       -- or it ends here
-      pub ended_at_last : Ends metas head
+      pub ended_at_last : ParentsEnd metas head
       ended_at_last = ended_here (ends_here metas at last)
 
       pub walked_to_last : AreWalked metas noted (head + 1)
       walked_to_last = record {
         low = λ place first is. let le = noted_low place first is in omega (arith, le);
         ends = λ place first is. elim (cases_eq place at) [
-          | inl e ↦ subst (Ends metas) (sym e) (ends_here metas at last)
+          | inl e ↦ subst (ParentsEnd metas) (sym e) (ends_here metas at last)
           | inr ne ↦ place_ended (ends_here metas at last) place first (sym (noted_elsewhere place ne) ∙ is)
         ];
       }

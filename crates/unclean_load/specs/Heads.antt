@@ -28,9 +28,9 @@ is_listed ByScan = false
 is_listed (Listed places) = true
 
 -- the set has a bit for each place
-abbrev pub HeadsFit : ℕ → Heads → Type 0
-HeadsFit md_len ByScan = Unit {0}
-HeadsFit md_len (Listed places) = length places ≡ md_len
+abbrev pub PlacesFit : ℕ → Heads → Type 0
+PlacesFit md_len ByScan = Unit {0}
+PlacesFit md_len (Listed places) = length places ≡ md_len
 
 -- The place is a head, with this metadata and chain, and without fault.
 pub record IsHeadOf (look : Look) (r : MdRegion) (heads : Heads) (place : ℕ) (m : Option Meta) (c : Option (List ℕ))

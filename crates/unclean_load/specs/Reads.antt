@@ -15,9 +15,9 @@ pages_together end chains =
     sum_by (λ head. option_map_or (λ pages. length pages) (chains head) 0) (range_with_len 0 end)
 
 -- how many of so many places are read to test whether they are heads: a set needs no test
-abbrev pub tests : Heads → ℕ → ℕ
-tests ByScan count = count
-tests (Listed places) count = 0
+abbrev pub reads_to_test : Heads → ℕ → ℕ
+reads_to_test ByScan count = count
+reads_to_test (Listed places) count = 0
 
 -- the pages of the three masks
 abbrev pub all_mask_pages : Super → ℕ

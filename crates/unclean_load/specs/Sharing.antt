@@ -10,12 +10,12 @@ use Rattle.blob_meta.specs.declared.meta.Meta.{Meta}
 use Rattle.store_model.specs.Maps.{Metas}
 
 -- the slot has the cluster
-abbrev pub holds : ℕ → Option ℕ → Bool
-holds cluster slot = option_map_or (λ c. c == cluster) slot false
+abbrev pub has_cluster : ℕ → Option ℕ → Bool
+has_cluster cluster slot = option_map_or (λ c. c == cluster) slot false
 
 -- how many slots of a map have it
 abbrev pub copies_in : ℕ → List (Option ℕ) → ℕ
-copies_in cluster map = count_by (holds cluster) map
+copies_in cluster map = count_by (has_cluster cluster) map
 
 -- how many slots of the maps of the heads below a place have it
 abbrev pub copies : ℕ → Metas → ℕ → ℕ

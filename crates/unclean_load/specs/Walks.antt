@@ -10,7 +10,7 @@ use Rattle.unclean_load.specs.declared.fault.LoadFault.TheVariants as fault
 use Rattle.unclean_load.specs.Parents.{ancestor, parent_at, HasWritableParent, NamesNoBlob}
 
 -- Following parents from a head ends: after so many steps it has come to a place from which it goes no further.
-pub record Ends (metas : Metas) (head : ℕ) : Type 0 where
+pub record ParentsEnd (metas : Metas) (head : ℕ) : Type 0 where
   pub steps : ℕ
   pub last : ℕ
   pub comes : ancestor metas head steps ≡ Some last
@@ -33,7 +33,7 @@ first_walk begun place = slice_index_or begun place None
 -- From each place to which walks came so far following parents ends; the walks began below a head.
 pub record AreWalked (metas : Metas) (begun : List (Option ℕ)) (head : ℕ) : Type 0 where
   pub low : (place first : ℕ) → first_walk begun place ≡ Some first → first < head
-  pub ends : (place first : ℕ) → first_walk begun place ≡ Some first → Ends metas place
+  pub ends : (place first : ℕ) → first_walk begun place ≡ Some first → ParentsEnd metas place
 
 -- the fault that a blob's own parent shows
 abbrev pub ShowsOwnParent : Metas → ℕ → Meta → LoadFault → Type 0

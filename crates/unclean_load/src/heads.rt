@@ -11,10 +11,10 @@ ghost use Rattle.md_page.specs.Page.{id_of, sequence_of};
 ghost use Rattle.store_model.specs.Regions.{region_of};
 ghost use Rattle.store_model.specs.Scans.{is_head as is_head_said};
 ghost use Rattle.super_block.specs.Faults.{IsFaultless};
-ghost use Rattle.unclean_load.specs.Heads.{HeadsFit};
+ghost use Rattle.unclean_load.specs.Heads.{PlacesFit};
 ghost use Rattle.unclean_load.specs.Reading.{GaveHead, IsChainFault, IsItemsFault, IsOnlyFault, IsPlaceFault};
 ghost use Rattle.unclean_load.specs.Reading.{SaysAt, chain_in};
-ghost use Rattle.unclean_load.specs.Reads.{tests};
+ghost use Rattle.unclean_load.specs.Reads.{reads_to_test};
 ghost use Rattle.unclean_load.specs.declared.fault.LoadFault.TheVariants as fault;
 ghost use Rattle.unclean_load.specs.declared.heads.Heads.TheVariants.{ByScan};
 
@@ -89,14 +89,14 @@ fn has_head<D: PageDisk>(
     heads: &Heads,
     place: u32,
 ) -> Result<bool, LoadFault>
-    requires fits { HeadsFit sup.now.md_len heads.now }
+    requires fits { PlacesFit sup.now.md_len heads.now }
     requires low { place < sup.now.md_len }
     requires inside { sup.now.md_start + sup.now.md_len ≤ D.pages disk.old }
     ensures found { IfOk result (λ is. GaveHead D.PageDisk sup.now disk.old heads.now place is) }
     ensures fault { IfErr result (λ e. e ≡ fault.ReadFault) }
     ensures counted { IfErr result (λ e. IsOnlyFault (D.read_faults disk.old) (D.read_faults disk.new) e) }
     ensures quiet { OnOk result (D.read_faults disk.new ≡ D.read_faults disk.old) }
-    ensures reads { D.reads disk.new ≤ D.reads disk.old + tests heads.now 1 }
+    ensures reads { D.reads disk.new ≤ D.reads disk.old + reads_to_test heads.now 1 }
     ensures same { OnlyRead D.PageDisk disk.old disk.new }
 {
     match heads {
@@ -156,7 +156,7 @@ pub fn blob_at<D: PageDisk>(
 ) -> Result<Option<Blob>, LoadFault>
     requires faultless { IsFaultless sup.now }
     requires device { sup.now.device_pages ≡ D.pages disk.old }
-    requires fits { HeadsFit sup.now.md_len heads.now }
+    requires fits { PlacesFit sup.now.md_len heads.now }
     requires low { place < sup.now.md_len }
     requires inside { sup.now.md_start + sup.now.md_len ≤ D.pages disk.old }
     ensures found { IfOk result (λ b. SaysAt D.PageDisk sup.now disk.old heads.now place b) }
@@ -165,8 +165,8 @@ pub fn blob_at<D: PageDisk>(
     ensures counted { IfErr result (λ e. IsOnlyFault (D.read_faults disk.old) (D.read_faults disk.new) e) }
     ensures quiet { OnOk result (D.read_faults disk.new ≡ D.read_faults disk.old) }
     ensures reads { IfOk result (λ b. D.reads disk.new
-        ≤ D.reads disk.old + tests heads.now 1 + option_map_or (λ (p : List ℕ). length p) (chain_in b) 0) }
-    ensures few { OnErr result (D.reads disk.new ≤ D.reads disk.old + tests heads.now 1 + sup.now.md_len) }
+        ≤ D.reads disk.old + reads_to_test heads.now 1 + option_map_or (λ (p : List ℕ). length p) (chain_in b) 0) }
+    ensures few { OnErr result (D.reads disk.new ≤ D.reads disk.old + reads_to_test heads.now 1 + sup.now.md_len) }
     ensures same { OnlyRead D.PageDisk disk.old disk.new }
 {
     if !has_head(disk, sup, heads, place)? {

@@ -6,7 +6,7 @@ ghost use Rattle.std.specs.FinMap as map;
 ghost use Rattle.blob_meta.specs.Repairs.{HasHeadsBelow};
 ghost use Rattle.blob_meta.specs.SlotCounts.{HeadsFit};
 ghost use Rattle.unclean_load.specs.Parents.{ComesBack, HasRightParent, HaveRightParents, IsParentFault, parent_at};
-ghost use Rattle.unclean_load.specs.Walks.{AreWalked, Ends, HaveLongMarks, ShowsOwnParent, is_writable_at};
+ghost use Rattle.unclean_load.specs.Walks.{AreWalked, ParentsEnd, HaveLongMarks, ShowsOwnParent, is_writable_at};
 
 use crate::fault::LoadFault;
 use blob_meta::{Meta, Metas, parent_of};
@@ -89,7 +89,7 @@ impl Walks {
         requires walked { AreWalked (map.get metas.now) self.old.begun.items head }
         ensures count { length self.new.begun.items ≡ length self.old.begun.items }
         ensures back { result ≡ true → ComesBack (map.get metas.now) head }
-        ensures ends { result ≡ false → Ends (map.get metas.now) head }
+        ensures ends { result ≡ false → ParentsEnd (map.get metas.now) head }
         ensures walked { result ≡ false → AreWalked (map.get metas.now) self.new.begun.items (head + 1) }
     {
         let mut at = head;

@@ -5,7 +5,7 @@ ghost use Rattle.std.specs.FinMap as map;
 ghost use Rattle.blob_meta.specs.Repairs.{HasHeadsBelow};
 ghost use Rattle.blob_meta.specs.Resolving.{slots_together};
 ghost use Rattle.running_store.specs.LoadedWhole.{AreMasks};
-ghost use Rattle.running_store.specs.Recovered.{IsRecovered, chains_of, marked as marked_said};
+ghost use Rattle.running_store.specs.Recovered.{IsRecovered, chains_of, marked_blobs};
 ghost use Rattle.super_block.specs.Faults.{IsFaultless};
 ghost use Rattle.unclean_load.specs.Claiming.{AreChains, IsMaskFault, IsRecoveryFault};
 ghost use Rattle.unclean_load.specs.Reading.{AreRead};
@@ -42,7 +42,7 @@ pub struct Recovered {
 /// Copies of the blobs with a mark.
 fn marked_of(alloc: Global, metas: &Metas, md_len: u32) -> Result<Metas, Memory>
     requires { HasHeadsBelow md_len (map.get metas.now) }
-    ensures { IfOk result (λ m. (head : ℕ) → map.get m head ≡ marked_said (map.get metas.now) head) }
+    ensures { IfOk result (λ m. (head : ℕ) → map.get m head ≡ marked_blobs (map.get metas.now) head) }
 {
     let mut marked = Metas::new(alloc);
     let mut from = 0;

@@ -6,9 +6,9 @@ ghost use Rattle.blob_meta.specs.Resolving.{slots_together};
 ghost use Rattle.md_chain.specs.Reading.{OnlyRead, region_look};
 ghost use Rattle.store_model.specs.Regions.{region_of};
 ghost use Rattle.super_block.specs.Faults.{IsFaultless};
-ghost use Rattle.unclean_load.specs.Heads.{AreWhole, HeadsFit, IsHeadsFault};
+ghost use Rattle.unclean_load.specs.Heads.{AreWhole, PlacesFit, IsHeadsFault};
 ghost use Rattle.unclean_load.specs.Reading.{AreRead, IsBlobRefused, IsOnlyFault};
-ghost use Rattle.unclean_load.specs.Reads.{pages_together, tests};
+ghost use Rattle.unclean_load.specs.Reads.{pages_together, reads_to_test};
 
 use crate::fault::LoadFault;
 use crate::heads::{Blob, Heads, blob_at};
@@ -71,7 +71,7 @@ pub fn blobs_on<D: PageDisk>(
 ) -> Result<Blobs, LoadFault>
     requires faultless { IsFaultless sup.now }
     requires device { sup.now.device_pages ≡ D.pages disk.old }
-    requires fits { HeadsFit sup.now.md_len heads.now }
+    requires fits { PlacesFit sup.now.md_len heads.now }
     requires inside { sup.now.md_start + sup.now.md_len ≤ D.pages disk.old }
 
     // Where the device tells, they are what its image says.
@@ -91,11 +91,12 @@ pub fn blobs_on<D: PageDisk>(
 
     // Each page of their chains is read once; where the device tells, these have no page in common.
     ensures reads { IfOk result (λ b. D.reads disk.new
-        ≤ D.reads disk.old + tests heads.now sup.now.md_len + pages_together sup.now.md_len (map.get b.chains)) }
+        ≤ D.reads disk.old + reads_to_test heads.now sup.now.md_len
+        + pages_together sup.now.md_len (map.get b.chains)) }
     ensures at_ok { IsTrue D.tells
-        → OnOk result (D.reads disk.new ≤ D.reads disk.old + tests heads.now sup.now.md_len + sup.now.md_len) }
+        → OnOk result (D.reads disk.new ≤ D.reads disk.old + reads_to_test heads.now sup.now.md_len + sup.now.md_len) }
     ensures at_most { IsTrue D.tells
-        → D.reads disk.new ≤ D.reads disk.old + tests heads.now sup.now.md_len + 2 * sup.now.md_len }
+        → D.reads disk.new ≤ D.reads disk.old + reads_to_test heads.now sup.now.md_len + 2 * sup.now.md_len }
     ensures same { OnlyRead D.PageDisk disk.old disk.new }
 {
     let mut blobs = Blobs::new(alloc);

@@ -12,7 +12,7 @@ use Rattle.store_model.specs.Device.{Device}
 use Rattle.store_model.specs.Rows.{Copying, InJob, OpenClaim, Posted, Row, Stage, with_row}
 use Rattle.store_model.specs.StoreState.{StoreState}
 use Rattle.store_model.specs.Touches.{DoesTouch, left_by, puts}
-use Rattle.store_model.specs.Turning.{read_after}
+use Rattle.store_model.specs.Turning.{read_after_write}
 use Rattle.store_model.specs.Cases.Copy as case
 use Rattle.store_model.specs.Cases.Copy.{Copies, stage_left}
 use Rattle.store_model.specs.RunInvariant.{MayClaim, RunInvariant}
@@ -40,7 +40,7 @@ module _ (told : Bool) (p q : StoreState) (t : Copies told p q) where
   reads_elsewhere : IsSameButAt place p.device.reads t.device.reads
   reads_elsewhere n ne = ap (λ (i : Image). i n) t.reads ∙ by told
     where
-      by : (b : Bool) → read_after b p.device.reads place t.content n ≡ p.device.reads n
+      by : (b : Bool) → read_after_write b p.device.reads place t.content n ≡ p.device.reads n
       by true = put_elsewhere p.device.reads place n t.content ne
       by false = refl
 
@@ -91,12 +91,12 @@ module _ (known : Known) (told : Bool) (q : StoreState) (t : Copies told known.p
       by : (b : Bool) → told ≡ b → t.device.reads (place told p q t) ≡ shown_in_slot now (claim told p q t) t.page
       by true is =
           ap (λ (i : Image). i (place told p q t)) t.reads
-          ∙ ap (λ (b : Bool). read_after b p.device.reads (place told p q t) t.content (place told p q t)) is
+          ∙ ap (λ (b : Bool). read_after_write b p.device.reads (place told p q t) t.content (place told p q t)) is
           ∙ put_here p.device.reads (place told p q t) (place told p q t) t.content refl
           ∙ t.is_content is ∙ sym still
       by false is =
           ap (λ (i : Image). i (place told p q t)) t.reads
-          ∙ ap (λ (b : Bool). read_after b p.device.reads (place told p q t) t.content (place told p q t)) is
+          ∙ ap (λ (b : Bool). read_after_write b p.device.reads (place told p q t) t.content (place told p q t)) is
           ∙ t.blank is (place told p q t)
           ∙ sym (still ∙ content_blank k p.device.reads (resolved p.base) (t.blank is) (suc p.super.md_len)
           (claim told p q t).head ((claim told p q t).slot * k + t.page))

@@ -19,7 +19,7 @@ use Rattle.store_model.specs.RunInvariant.{RunInvariant, RunsWell}
 use Rattle.store_model.specs.Steady.{AreStored}
 use Rattle.store_model.specs.StoreState.{JobState, shown, StoreState}
 use Rattle.store_model.specs.Touches.{DoesTouch, left_by, read_now, replaces}
-use Rattle.store_model.specs.Turning.{read_after}
+use Rattle.store_model.specs.Turning.{read_after_write}
 use Rattle.store_model.proofs.Copies.{copied_behind}
 use Rattle.store_model.proofs.Going.{told_reads}
 use Rattle.store_model.proofs.Holding.{put_elsewhere}
@@ -64,7 +64,7 @@ module _ (known : Known) (told : Bool) (q : StoreState) (t : MarksDirty told kno
       (subst (λ (y : Super). fixed_clusters_of y * cluster_pages_of y ≤ n) facts.super le) in
       ap (λ (i : Image). i n) t.moves.reads ∙ by told n (λ e. ne (sym e))
     where
-      by : (b : Bool) (n : ℕ) → n ≢ 0 → read_after b p.device.reads 0 t.page n ≡ p.device.reads n
+      by : (b : Bool) (n : ℕ) → n ≢ 0 → read_after_write b p.device.reads 0 t.page n ≡ p.device.reads n
       by true n ne = put_elsewhere p.device.reads 0 n t.page ne
       by false n ne = refl
 
@@ -109,8 +109,8 @@ module _ {D : Type 0} (d : Ghosts D) (x : Over d) (t : MarksDirty d.tells x.p x.
   now_is =
       sym (told_reads d to told) ∙ sym (ap (λ (v : Device). v.reads) to_is)
       ∙ ap (λ (v : StoreState). v.device.reads) t.next ∙ t.moves.reads
-      ∙ ap (λ (v : Device). read_after d.tells v.reads 0 t.page) from_is
-      ∙ ap (λ (b : Bool). read_after b (read_now d from) 0 t.page) told
+      ∙ ap (λ (v : Device). read_after_write d.tells v.reads 0 t.page) from_is
+      ∙ ap (λ (b : Bool). read_after_write b (read_now d from) 0 t.page) told
       ∙ ap (λ (i : Image). with_page i 0 t.page) (told_reads d from told)
 
   stands_there : Stands s first q.base q.chains q.log (d.now to) marked

@@ -15,11 +15,11 @@ use Rattle.store_model.specs.Agreeing.{IsSameButAt, Stands}
 use Rattle.store_model.specs.Places.{claimed_by, held_by, AreDistinct}
 use Rattle.store_model.specs.Phases.{behind as behind_all, has_commit, held_in, OnlyMend, planned_in, Zeros}
 use Rattle.blob_meta.specs.Repairs.{HasNoMarks}
-use Rattle.store_model.specs.Turning.{read_after}
+use Rattle.store_model.specs.Turning.{read_after_write}
 use Rattle.store_model.specs.Touches.{left_by, puts, DoesTouch}
 use Rattle.store_model.specs.Cases.Zero.{Zeroes}
 use Rattle.store_model.specs.Cases.Zero as case
-use Rattle.store_model.specs.Jobs.{gained_by, Puts, zeros_in, Does, JobStands, Keeps, Lays, ReadsZeros}
+use Rattle.store_model.specs.Jobs.{gained_by, IsLeftOfInsert, zeros_in, Does, JobStands, Keeps, Lays, ReadsZeros}
 use Rattle.store_model.specs.RunInvariant.{RunInvariant}
 use Rattle.std.proofs.Common.{◌++◌}
 use Rattle.std.proofs.lemmas.Nat.{div-mul-add}
@@ -45,11 +45,11 @@ module _ (told : Bool) (p q : StoreState) (t : Zeroes told p q) where
       by : (b : Bool) → told ≡ b → t.device.reads t.page ≡ zero_page
       by true is =
           ap (λ (i : Image). i t.page) t.moves.reads
-          ∙ ap (λ (b : Bool). read_after b p.device.reads t.page zero_page t.page) is
+          ∙ ap (λ (b : Bool). read_after_write b p.device.reads t.page zero_page t.page) is
           ∙ put_here p.device.reads t.page t.page zero_page refl
       by false is =
           ap (λ (i : Image). i t.page) t.moves.reads
-          ∙ ap (λ (b : Bool). read_after b p.device.reads t.page zero_page t.page) is ∙ t.blank is t.page
+          ∙ ap (λ (b : Bool). read_after_write b p.device.reads t.page zero_page t.page) is ∙ t.blank is t.page
 
   reads_elsewhere : IsSameButAt t.page p.device.reads t.device.reads
   reads_elsewhere n ne = by told refl
@@ -57,11 +57,11 @@ module _ (told : Bool) (p q : StoreState) (t : Zeroes told p q) where
       by : (b : Bool) → told ≡ b → t.device.reads n ≡ p.device.reads n
       by true is =
           ap (λ (i : Image). i n) t.moves.reads
-          ∙ ap (λ (b : Bool). read_after b p.device.reads t.page zero_page n) is
+          ∙ ap (λ (b : Bool). read_after_write b p.device.reads t.page zero_page n) is
           ∙ put_elsewhere p.device.reads t.page n zero_page ne
       by false is =
           ap (λ (i : Image). i n) t.moves.reads
-          ∙ ap (λ (b : Bool). read_after b p.device.reads t.page zero_page n) is
+          ∙ ap (λ (b : Bool). read_after_write b p.device.reads t.page zero_page n) is
 
 -- ---- it keeps what every state has
 
@@ -95,7 +95,7 @@ module _ (known : Known) (told : Bool) (q : StoreState) (t : Zeroes told known.p
 
   -- the job of an insert overwrites no page with zeros
   no_insert : (row : ℕ) → j.serves ≡ ForInsert row → ⊥
-  no_insert row serves = subst (Puts p row) t.running.next (stood.inserts row serves).puts
+  no_insert row serves = subst (IsLeftOfInsert p row) t.running.next (stood.inserts row serves).puts
 
   pub among : is_among (t.page / cluster_pages_of p.super) (claimed_by p.job) ≡ true
   among = ap (λ o. is_among (t.page / cluster_pages_of p.super) (claimed_by o)) t.running.is

@@ -9,7 +9,7 @@ use Rattle.store_model.specs.Device.{Device}
 use Rattle.store_model.specs.Rows.{Copying, Ready, Stage, with_row}
 use Rattle.store_model.specs.StoreState.{StoreState}
 use Rattle.store_model.specs.Touches.{puts, TurnKind}
-use Rattle.store_model.specs.Turning.{read_after}
+use Rattle.store_model.specs.Turning.{read_after_write}
 
 abbrev pub stage_left : ℕ → Stage
 stage_left zero = Ready
@@ -29,7 +29,7 @@ pub record Copies (told : Bool) (p q : StoreState) : Type 0 where
   pub content : List ℕ
   pub is_content : told ≡ true → content ≡ shown_in_slot p copying.claim page
   pub device : Device
-  pub reads : device.reads ≡ read_after told p.device.reads (page_of_claim p copying.claim page) content
+  pub reads : device.reads ≡ read_after_write told p.device.reads (page_of_claim p copying.claim page) content
   pub clock : p.device.clock + 1 ≤ device.clock
   pub read_calls : (device.read_calls ≡ p.device.read_calls) ⊎ RoseByOne p.device.read_calls device.read_calls
   pub read_faults : device.read_faults ≡ p.device.read_faults

@@ -5,10 +5,10 @@ use Rattle.super_block.specs.declared.page.Super.{Super}
 use Rattle.blob_meta.proofs.HeadsThere.{up_to_end, up_to_next}
 use Rattle.blob_report.proofs.Firsts.{still_first}
 use Rattle.blob_report.proofs.StoreTexts.{begun, no_blob_line, no_line_more, one_more}
-use Rattle.blob_report.specs.StoreText.{Metas, store_line, super_text, volume_text}
+use Rattle.blob_report.specs.StoreText.{MetasByHead, store_line, super_text, volume_text}
 use Rattle.blob_report.proofs.store.push_text.Goals as goal
 
-module _ (sup : Super) (metas : Metas) (before first now : List ℕ) where
+module _ (sup : Super) (metas : MetasByHead) (before first now : List ℕ) where
   -- the lines of the volumes below a place
   abbrev HasLines : ℕ → Type 0
   HasLines end = now ≡ before ++ (first ++ flat_map (volume_text sup metas) (range_with_len 0 end))
@@ -33,7 +33,7 @@ loop-head-init c = (
 pub loop-head-preserved : goal.loop-head-preserved
 loop-head-preserved c =
     let sup : Super = c.args.sup.now in
-    let metas : Metas = c.args.metas.now in
+    let metas : MetasByHead = c.args.metas.now in
     let first : List ℕ = store_line sup c.args.masks.now ++ super_text sup metas in
     let before : List ℕ = c.args.into.now.items in
     let now : List ℕ = c.loop-head.into.items in
@@ -49,7 +49,7 @@ loop-head-preserved c =
 pub returns-clause-ok : goal.returns-clause-ok
 returns-clause-ok c =
     let sup : Super = c.args.sup.now in
-    let metas : Metas = c.args.metas.now in
+    let metas : MetasByHead = c.args.metas.now in
     let first : List ℕ = store_line sup c.args.masks.now ++ super_text sup metas in
     let before : List ℕ = c.args.into.now.items in
     let now : List ℕ = c.loop-head.into.items in

@@ -1,6 +1,6 @@
 use Rattle.std.proofs.Common.{◌≡◌, Bool, List, Some, true, length, sym, ap, ◌∙◌}
 use Rattle.std.specs.Prelude.{option_copied}
-use Rattle.blob_meta.specs.Faults.{clusters_of}
+use Rattle.blob_meta.specs.Faults.{clusters_held}
 use Rattle.running_store.specs.StoreView.{base_of}
 use Rattle.store_model.proofs.Sets.{length_all_set}
 use Rattle.job_begins.proofs.alone.add_at.Goals as goal
@@ -14,4 +14,4 @@ add_clusters-requires g c =
 pub returns-in-Some-clause-count : goal.returns-in-Some-clause-count
 returns-in-Some-clause-count g c =
     ap (λ (bits : List Bool). length bits) c.add_clusters.ensures
-    ∙ length_all_set c.args.clusters.now (clusters_of c.in-Some.meta.now.map) true
+    ∙ length_all_set c.args.clusters.now (clusters_held c.in-Some.meta.now.map) true

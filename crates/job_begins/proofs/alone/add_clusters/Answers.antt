@@ -1,5 +1,5 @@
 use Rattle.std.proofs.Common.{◌≡◌, ◌+◌, ℕ, List, Option, None, true, sym, ap, ◌∙◌, subst, arith}
-use Rattle.blob_meta.specs.Faults.{clusters_of}
+use Rattle.blob_meta.specs.Faults.{clusters_held}
 use Rattle.md_chain.specs.Chain.{is_among}
 use Rattle.store_model.specs.Places.{all_set}
 use Rattle.job_begins.proofs.ClustersAlone.{adds_all, adds_none, adds_one, one_of, Adds}
@@ -11,7 +11,7 @@ set-requires c =
     let among = one_of c.as_slice-slot-items.result.now c.loop-slot.slot-index c.in-Some.cluster None
     c.loop-slot-test.true c.in-Some.is in
     let low = c.requires c.in-Some.cluster
-    (subst (λ (l : List (Option ℕ)). is_among c.in-Some.cluster (clusters_of l) ≡ true)
+    (subst (λ (l : List (Option ℕ)). is_among c.in-Some.cluster (clusters_held l) ≡ true)
     c.as_slice-slot-items.ensures.slots among) in
     let count = c.loop-slot.invariant.count in
     omega (arith, low, count)
@@ -34,4 +34,5 @@ pub returns : goal.returns
 returns c =
     adds_all c.args.clusters.now c.as_slice-slot-items.result.now c.loop-slot.slot-index c.loop-slot.clusters
     c.loop-slot-test.false c.loop-slot.invariant
-    ∙ ap (λ (l : List (Option ℕ)). all_set c.args.clusters.now (clusters_of l) true) c.as_slice-slot-items.ensures.slots
+    ∙ ap (λ (l : List (Option ℕ)). all_set c.args.clusters.now (clusters_held l) true)
+    c.as_slice-slot-items.ensures.slots

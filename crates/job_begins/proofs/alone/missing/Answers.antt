@@ -2,7 +2,7 @@ use Rattle.std.proofs.Common.{◌≡◌, ◌+◌, ◌<◌, ℕ, Bool, List, Opti
 use Rattle.std.proofs.Common.{arith, get_or, Some}
 use Rattle.std.specs.Prelude.{slice_set}
 use Rattle.bit_array.specs.Bits.{is_in}
-use Rattle.blob_meta.specs.Faults.{clusters_of}
+use Rattle.blob_meta.specs.Faults.{clusters_held}
 use Rattle.md_chain.specs.Chain.{is_among}
 use Rattle.job_begins.proofs.ClustersAlone.{one_of}
 use Rattle.job_begins.proofs.MissingFound.{finds_had, finds_none, finds_one, Finds}
@@ -11,10 +11,10 @@ use Rattle.job_begins.proofs.alone.missing.Goals.{in-Some+then-not-get+in_ok-pus
 
 -- a slot's cluster is below the length of the set
 below : (slots map : List (Option ℕ)) (i cluster len now : ℕ)
-    → ((c : ℕ) → is_among c (clusters_of map) ≡ true → c < len) → slots ≡ map → i < length slots
+    → ((c : ℕ) → is_among c (clusters_held map) ≡ true → c < len) → slots ≡ map → i < length slots
     → get_or slots i None ≡ Some cluster → now ≡ len → cluster < now
 below slots map i cluster len now all same low is count =
-    let less = all cluster (subst (λ (l : List (Option ℕ)). is_among cluster (clusters_of l) ≡ true) same
+    let less = all cluster (subst (λ (l : List (Option ℕ)). is_among cluster (clusters_held l) ≡ true) same
     (one_of slots i cluster None low is)) in
     omega (arith, less, count)
 

@@ -1,6 +1,6 @@
 use Rattle.std.proofs.Common.{◌≡◌, ◌↔◌, ◌<◌, Bool, true, List, length, None, Some, sym, ap, subst, ◌∙◌, arith}
 use Rattle.std.proofs.lemmas.Bool.Decides.{nat_tests}
-use Rattle.blob_meta.specs.Faults.{clusters_of}
+use Rattle.blob_meta.specs.Faults.{clusters_held}
 use Rattle.md_chain.specs.Chain.{is_among}
 use Rattle.store_model.proofs.Sets.{length_all_set}
 use Rattle.job_begins.specs.Alone.{IsMissing}
@@ -15,7 +15,7 @@ missing-requires g c = λ k among.
     let slots = c.args.ask.now.taking.map in
     let long : length c.add_clusters.new.clusters ≡ length c.args.running.now.clusters.bits =
     ap (λ (l : List Bool). length l) c.add_clusters.ensures
-    ∙ length_all_set c.in_ok-beside.beside (clusters_of slots) true ∙ c.in_ok-beside.ensures.count in
+    ∙ length_all_set c.in_ok-beside.beside (clusters_held slots) true ∙ c.in_ok-beside.ensures.count in
     subst (λ n. k < n) (sym long) (c.requires.going k among)
 
 pub returns-clause-are : goal.returns-clause-are

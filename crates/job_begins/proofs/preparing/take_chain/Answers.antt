@@ -5,7 +5,7 @@ use Rattle.store_model.proofs.Sets.{are_distinct}
 use Rattle.md_chain.proofs.Fitting.{some_parts}
 use Rattle.md_chain.specs.Packing.{parts_of}
 use Rattle.job_begins.proofs.JobPlaces.{behind_long, clear_again, some_taken, taken_in_use, taken_is}
-use Rattle.job_begins.specs.Begins.{behind_in, IsLaid}
+use Rattle.job_begins.specs.Begins.{behind_in, IsChainLaid}
 use Rattle.job_begins.proofs.preparing.take_chain.Goals as goal
 
 pub clear_places-requires-clause-distinct : goal.clear_places-requires-clause-distinct
@@ -36,7 +36,7 @@ returns-in-Ok-clause-taken c =
     (some_taken c.args.makes (length taken) (length (parts_of c.args.items.now)) long some) in
     record {
       fresh = behind_in c.args.makes taken;
-      laid_on = subst (λ (l : List ℕ). IsLaid c.args.items.now c.args.head l c.in-Ok.laid)
+      laid_on = subst (λ (l : List ℕ). IsChainLaid c.args.items.now c.args.head l c.in-Ok.laid)
           c.behind_head-fresh.ensures c.in-Ok.ensures;
       count = behind_long c.args.makes taken (length (parts_of c.args.items.now)) long some;
       least = subst (AreLeastClear bits) is c.in_ok-taken.ensures.least;

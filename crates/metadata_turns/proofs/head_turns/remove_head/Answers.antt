@@ -8,7 +8,7 @@ use Rattle.store_model.specs.Maps.{Metas}
 use Rattle.store_model.specs.Rows.{Row}
 use Rattle.running_store.specs.Blobs.{blobs_behind, blobs_of}
 use Rattle.running_store.specs.Jobs.{phases_in, removing_for}
-use Rattle.running_store.specs.Running.{view_of, AreHeads, InOrder}
+use Rattle.running_store.specs.Running.{view_of, AreHeadPlaces, InOrder}
 use Rattle.running_store.specs.Stages.{stage_seen}
 use Rattle.running_store.specs.StoreView.{base_of, device_of}
 use Rattle.running_store.specs.declared.replacements.Change.TheVariants as change
@@ -16,7 +16,7 @@ use Rattle.running_store.specs.declared.running.Running.{Running}
 use Rattle.running_store.proofs.BaseBehind.{base_behind}
 use Rattle.running_store.proofs.PlainFacts.{on_err, on_ok, zeros}
 use Rattle.running_store.proofs.Without.{heads_gone}
-use Rattle.metadata_turns.specs.Telling.{gone_on, HasRow}
+use Rattle.metadata_turns.specs.Telling.{job_gone_on, HasServedRow}
 use Rattle.metadata_turns.proofs.Behind.{left_seen}
 use Rattle.metadata_turns.proofs.AtHead.{told_row}
 use Rattle.metadata_turns.proofs.HeadFailed.{head_failed}
@@ -96,10 +96,10 @@ tell-requires-clause-row g c =
     let old = c.args.beside.old in
     let more = phases_in c.args.beside.later.items in
     let serves = c.args.beside.serves in
-    subst (λ (rows : List Row). HasRow rows serves c.reply-reply.result)
+    subst (λ (rows : List Row). HasServedRow rows serves c.reply-reply.result)
     (sym (ap (λ (r : Running g.row.D.Denot). (view_of r).rows) c.go_on.ensures
     ∙ ap (λ (r : Running g.row.D.Denot). (view_of r).rows) c.forget.ensures))
-    (subst (HasRow p.rows serves) (sym c.reply-reply.ensures)
+    (subst (HasServedRow p.rows serves) (sym c.reply-reply.ensures)
     (told_row d p (change.Erases c.args.erasure) old more (removing_for serves c.args.erasure old more) serves
     (at_head d p serves c.args.erasure old more c.requires.at_work c.requires.removed) c.requires.order.seventeen))
 
@@ -115,7 +115,7 @@ tell-requires-clause-order g c =
     c.requires.at_work in
     let behind = blobs_behind (blobs_of old) (change.Erases e) in
     subst (InOrder g.D.PageDisk) (sym c.go_on.ensures)
-    (subst (λ (r : Running g.row.D.Denot). InOrder g.D.PageDisk (gone_on r serves c.behind.result))
+    (subst (λ (r : Running g.row.D.Denot). InOrder g.D.PageDisk (job_gone_on r serves c.behind.result))
     (sym c.forget.ensures) (record {
       inside = subst (λ (n : ℕ). old.sup.md_start + old.sup.md_len ≤ n) pages order.inside;
       device = subst (λ (n : ℕ). old.sup.device_pages ≤ n) pages order.device;
@@ -128,7 +128,7 @@ tell-requires-clause-order g c =
       no_page = order.no_page;
       no_cluster = refl;
       headed = c.behind.ensures.headed;
-      heads = subst (λ (m : Metas). AreHeads old.sup.md_len m (slice_set old.heads e.head false))
+      heads = subst (λ (m : Metas). AreHeadPlaces old.sup.md_len m (slice_set old.heads e.head false))
           (sym (base_behind (blobs_of old) (change.Erases e) c.requires.kept.0))
           (heads_gone old.sup.md_len (base_of old.metas old.marked) e.head old.heads below order.heads);
       resolves = c.requires.kept.0.resolved;
@@ -158,7 +158,7 @@ returns-clause-case g c =
       next_is = c.stage_behind-next.ensures;
       after = _;
       after_is = ap view_of c.go_on.ensures
-          ∙ ap (λ (r : Running g.row.D.Denot). view_of (gone_on r serves c.behind.result)) c.forget.ensures
+          ∙ ap (λ (r : Running g.row.D.Denot). view_of (job_gone_on r serves c.behind.result)) c.forget.ensures
           ∙ left_seen p (change.Erases e) serves disk c.behind.result;
       reply = c.reply-reply.result;
       reply_is = c.reply-reply.ensures;

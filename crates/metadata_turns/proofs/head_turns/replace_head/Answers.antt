@@ -9,7 +9,7 @@ use Rattle.store_model.specs.Phases.{page_in, Phase}
 use Rattle.store_model.specs.Rows.{Row}
 use Rattle.running_store.specs.Blobs.{blobs_behind, blobs_of}
 use Rattle.running_store.specs.Jobs.{phases_in, replacing_of}
-use Rattle.running_store.specs.Running.{view_of, AreHeads, InOrder}
+use Rattle.running_store.specs.Running.{view_of, AreHeadPlaces, InOrder}
 use Rattle.running_store.specs.Stages.{stage_seen}
 use Rattle.running_store.specs.StoreView.{base_of, device_of, StoreView}
 use Rattle.running_store.specs.declared.job.Serves.{Serves}
@@ -20,7 +20,7 @@ use Rattle.running_store.proofs.BaseBehind.{base_behind}
 use Rattle.running_store.proofs.Maps.{heads_adopted}
 use Rattle.running_store.proofs.PlainFacts.{got, on_err, on_ok}
 use Rattle.metadata_turns.specs.JobTurns.{IsAtWork}
-use Rattle.metadata_turns.specs.Telling.{gone_on, HasRow}
+use Rattle.metadata_turns.specs.Telling.{job_gone_on, HasServedRow}
 use Rattle.metadata_turns.proofs.Behind.{left_seen}
 use Rattle.metadata_turns.proofs.AtHead.{told_row, TouchesHead}
 use Rattle.metadata_turns.proofs.HeadFailed.{head_failed}
@@ -132,7 +132,7 @@ tell-requires-clause-order g c =
     c.requires.at_work in
     let behind = blobs_behind (blobs_of old) (change.Writes planned) in
     subst (InOrder g.D.PageDisk) (sym c.go_on.ensures)
-    (subst (λ (r : Running g.row.D.Denot). InOrder g.D.PageDisk (gone_on r serves c.behind.result))
+    (subst (λ (r : Running g.row.D.Denot). InOrder g.D.PageDisk (job_gone_on r serves c.behind.result))
     (sym c.adopt.ensures) (record {
       inside = subst (λ (n : ℕ). old.sup.md_start + old.sup.md_len ≤ n) (sym c.replace.ensures.pages) order.inside;
       device = subst (λ (n : ℕ). old.sup.device_pages ≤ n) (sym c.replace.ensures.pages) order.device;
@@ -145,7 +145,7 @@ tell-requires-clause-order g c =
       no_page = order.no_page;
       no_cluster = refl;
       headed = c.behind.ensures.headed;
-      heads = subst (λ (m : Metas). AreHeads old.sup.md_len m
+      heads = subst (λ (m : Metas). AreHeadPlaces old.sup.md_len m
           (if is_some planned.effects.rooms.chain then slice_set old.heads planned.head true else old.heads))
           (sym (base_behind (blobs_of old) (change.Writes planned) c.requires.kept.0))
           (heads_adopted (is_some planned.effects.rooms.chain) old.sup.md_len (base_of old.metas old.marked)
@@ -161,10 +161,10 @@ tell-requires-clause-row g c =
     let old = c.args.beside.old in
     let more = phases_in c.args.beside.later.items in
     let serves = c.args.beside.serves in
-    subst (λ (rows : List Row). HasRow rows serves c.reply-reply.result)
+    subst (λ (rows : List Row). HasServedRow rows serves c.reply-reply.result)
     (sym (ap (λ (r : Running g.row.D.Denot). (view_of r).rows) c.go_on.ensures
     ∙ ap (λ (r : Running g.row.D.Denot). (view_of r).rows) c.adopt.ensures))
-    (subst (HasRow p.rows serves) (sym c.reply-reply.ensures)
+    (subst (HasServedRow p.rows serves) (sym c.reply-reply.ensures)
     (told_row d p (change.Writes c.args.planned) old more (now serves c.args.planned old more) serves
     (at_head d p serves c.args.planned old more c.requires.at_work c.requires.matched) c.requires.order.seventeen))
 
@@ -189,7 +189,7 @@ returns-clause-case g c =
       next_is = c.stage_behind-next.ensures;
       after = _;
       after_is = ap view_of c.go_on.ensures
-          ∙ ap (λ (r : Running g.row.D.Denot). view_of (gone_on r serves c.behind.result)) c.adopt.ensures
+          ∙ ap (λ (r : Running g.row.D.Denot). view_of (job_gone_on r serves c.behind.result)) c.adopt.ensures
           ∙ left_seen p (change.Writes c.args.planned) serves disk c.behind.result;
       reply = c.reply-reply.result;
       reply_is = c.reply-reply.ensures;

@@ -3,7 +3,7 @@ use Rattle.super_block.specs.declared.page.Super.{Super}
 use Rattle.running_store.specs.Blobs.{blobs_of, WillBeKept}
 use Rattle.running_store.specs.DeviceCalls.{mark_page}
 use Rattle.running_store.specs.Jobs.{freeze_of, job_seen, IsHeaded}
-use Rattle.running_store.specs.Running.{view_of, AreHeads}
+use Rattle.running_store.specs.Running.{view_of, AreHeadPlaces}
 use Rattle.running_store.specs.StoreView.{base_of}
 use Rattle.running_store.specs.declared.job.RunningJob.{RunningJob}
 use Rattle.metadata_turns.specs.JobTurns.{with_job, TurnsJob}
@@ -75,7 +75,7 @@ returns-clause-order g c =
       no_page = order.no_page;
       no_cluster = order.no_cluster;
       headed = subst IsHeaded (sym c.with_mark.ensures) c.requires.headed;
-      heads = subst (λ (s : Super). AreHeads s.md_len (base_of now.metas now.marked) now.heads) kept order.heads;
+      heads = subst (λ (s : Super). AreHeadPlaces s.md_len (base_of now.metas now.marked) now.heads) kept order.heads;
       resolves = order.resolves;
       kept = subst (WillBeKept (blobs_of now)) (sym c.with_mark.ensures) c.requires.kept;
     }

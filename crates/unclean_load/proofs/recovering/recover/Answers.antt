@@ -11,7 +11,7 @@ use Rattle.blob_meta.specs.Resolving.{IsLawful, resolved, slots_together}
 use Rattle.blob_meta.specs.SlotCounts.{HeadsFit}
 use Rattle.store_model.specs.Maps.{Metas, Chains}
 use Rattle.running_store.specs.LoadedWhole.{AreMasks}
-use Rattle.running_store.specs.Recovered.{IsRecovered, chains_of, marked}
+use Rattle.running_store.specs.Recovered.{IsRecovered, chains_of, marked_blobs}
 use Rattle.unclean_load.specs.declared.fault.LoadFault.{LoadFault}
 use Rattle.unclean_load.specs.Claiming.{ChainsAreApart, IsMaskFault, IsRecoveryFault}
 use Rattle.unclean_load.specs.Parents.{HaveRightParents, IsParentFault}
@@ -84,7 +84,7 @@ module _ (s : Super) (read metas : map.FinMap nat_cmp Meta) (chains : Chains) (a
   recovered : (removed_too marked_too : map.FinMap nat_cmp Meta) (list : List Replacement) (masks : Masks)
       → slots_together s.md_len (map.get read) ≤ 2 ^ 24
       → ChainsAreApart (chains_of (map.get read) chains)
-      → ((h : ℕ) → map.get marked_too h ≡ marked (map.get read) h)
+      → ((h : ℕ) → map.get marked_too h ≡ marked_blobs (map.get read) h)
       → (HeadsFit read → (h : ℕ) → map.get removed_too h ≡ removed (map.get read) h)
       → AreRepairs read list → HaveRightParents (map.get metas)
       → AreMasks s (map.get metas) (chains_of (map.get metas) chains) masks

@@ -14,7 +14,7 @@ use Rattle.md_chain.proofs.DeviceWalk.{read_on}
 use Rattle.unclean_load.specs.declared.heads.Blob.{Blob}
 use Rattle.unclean_load.specs.declared.heads.Heads.{Heads}
 use Rattle.unclean_load.specs.Reading.{HasNoneFrom, SaysAt, IsOnlyFault, chain_in}
-use Rattle.unclean_load.specs.Reads.{pages_together, tests}
+use Rattle.unclean_load.specs.Reads.{pages_together, reads_to_test}
 use Rattle.unclean_load.proofs.FewPages.{few_pages, few_places, tests_within}
 use Rattle.unclean_load.proofs.PlaceSays.{whole_region}
 use Rattle.unclean_load.proofs.Taken.{chain_of_region}
@@ -89,7 +89,7 @@ returns-in_err-add-clause-counted g c =
 -- how many reads a place takes
 abbrev ReadsFor : {D : Type 0} → Ghosts D → Heads → D → D → Option Blob → Type 0
 ReadsFor d heads disk new blob =
-    d.reads new ≤ d.reads disk + tests heads 1 + option_map_or (λ (p : List ℕ). length p) (chain_in blob) 0
+    d.reads new ≤ d.reads disk + reads_to_test heads 1 + option_map_or (λ (p : List ℕ). length p) (chain_in blob) 0
 
 pub loop-place-preserved : goal.loop-place-preserved
 loop-place-preserved g c =
@@ -150,14 +150,14 @@ pub returns-clause-reads : goal.returns-clause-reads
 returns-clause-reads g c =
     let d = g.D.PageDisk in
     subst
-    (λ (n : ℕ). d.reads c.loop-place.disk ≤ d.reads c.args.disk.now + tests c.args.heads.now n
+    (λ (n : ℕ). d.reads c.loop-place.disk ≤ d.reads c.args.disk.now + reads_to_test c.args.heads.now n
     + pages_together n (map.get c.loop-place.blobs.chains))
     (done _ _ c.loop-place.auto.place-end c.loop-place-test.false) c.loop-place.invariant.reads
 
 -- so many places were tested at most, and the chains have at most as many pages as the region
 few_so_far : {D : Type 0} (d : Ghosts D) (s : Super) (heads : Heads) (first disk : D) (metas : Metas) (chains : Chains)
     (slots place : ℕ) → Walked d s heads first disk metas chains slots place → IsTrue d.tells
-    → d.reads disk ≤ d.reads first + tests heads place + s.md_len
+    → d.reads disk ≤ d.reads first + reads_to_test heads place + s.md_len
 few_so_far d s heads first disk metas chains slots place w told =
     let few = few_pages (region_look s (d.now first)) s heads metas chains place (w.told told).blobs in
     let reads = w.reads in
@@ -168,7 +168,8 @@ returns-clause-at_ok g c =
     let d = g.D.PageDisk in
     let b = c.loop-place.blobs in
     λ told. subst
-    (λ (n : ℕ). d.reads c.loop-place.disk ≤ d.reads c.args.disk.now + tests c.args.heads.now n + c.args.sup.now.md_len)
+    (λ (n : ℕ). d.reads c.loop-place.disk ≤ d.reads c.args.disk.now + reads_to_test c.args.heads.now n
+    + c.args.sup.now.md_len)
     (done _ _ c.loop-place.auto.place-end c.loop-place-test.false)
     (few_so_far d c.args.sup.now c.args.heads.now c.args.disk.now c.loop-place.disk (map.get b.metas)
     (map.get b.chains) b.slots c.loop-place.place c.loop-place.invariant told)
