@@ -1,11 +1,11 @@
 //! Calls of the device, the source and the sink that fail in a run, and in the load before it.
 
-use crate::ends::{DF, expect_end};
 use crate::images::{SMALL, device, page_at};
+use crate::runs::DF;
 use page_disk::{CallKind, Fail, FaultDisk, MemDisk};
 use std::alloc::Global;
 use std::test::Fail as TestFail;
-use test_runs::{Call, perform, play};
+use test_runs::{Call, expect_end, perform, play};
 
 /// A script, and what it prints on a new store.
 const SCRIPT: &[u8] =

@@ -9,8 +9,6 @@ mod chains;
 #[cfg(test)]
 mod clusters;
 #[cfg(test)]
-mod ends;
-#[cfg(test)]
 mod faults;
 #[cfg(test)]
 mod harmless;

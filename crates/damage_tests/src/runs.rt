@@ -1,11 +1,19 @@
 //! Whole runs over damaged images: how they end.
 
-use crate::ends::{DF, expect_end};
 use crate::faults::{CASES, Case, TOO_LARGE, too_large};
 use crate::images::device;
 use page_disk::{MemDisk, PageDisk};
 use std::alloc::Global;
 use std::test::Fail;
+use test_runs::{Call, expect_end};
+
+/// A run that asks how much is clear.
+pub(crate) static DF: Call<'static> = Call {
+    line: "run store.img",
+    script: b"0 df\n",
+    failing_reads: &[],
+    failing_writes: &[],
+};
 
 /// Expects that a run of a command on a device ends with this fault of its image, prints nothing, and neither writes
 /// nor flushes.

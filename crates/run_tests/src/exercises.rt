@@ -1,13 +1,12 @@
 //! Generated scripts that are run, as an administrator asks for them.
 
-use crate::calls::expect_end;
 use crate::formats::expect_new_store;
 use crc32c::sum;
 use page_disk::{FaultDisk, MemDisk};
 use std::alloc::Global;
 use std::test::Fail;
 use streams::ListSink;
-use test_runs::{Call, perform, run};
+use test_runs::{Call, expect_end, perform, run};
 
 /// A new store of 16 clusters, with room for the changes of a test.
 fn new_store(alloc: Global) -> Result<MemDisk, Fail> {

@@ -1,10 +1,9 @@
 //! What the program says and prints where there is no command, no script or no store, and where the source or the sink
 //! fails.
 
-use crate::calls::{End, expect_end};
 use page_disk::MemDisk;
 use std::test::Fail;
-use test_runs::Call;
+use test_runs::{Call, End, expect_end};
 use test_stores::store;
 
 const PUTS: &[u8] = b"0 put @0 owner t:1\n0 put @0 owner t:2\n0 put @0 owner t:3\n";

@@ -1,11 +1,10 @@
 //! New stores, as an administrator makes them.
 
-use crate::calls::{End, expect_end};
 use crate::device_pages::{BytesRow, expect_bytes};
 use page_disk::{CallKind, Fail, FaultDisk, MemDisk, PageDisk};
 use std::alloc::Global;
 use std::test::Fail as TestFail;
-use test_runs::{Call, Ran, Status, perform, play};
+use test_runs::{Call, End, Ran, Status, expect_end, perform, play};
 use test_stores::store;
 
 /// The device after a `format IMAGE` with these options that ends so; fails where it ends otherwise.
@@ -52,11 +51,39 @@ static CASES: [Case; 28] = [
         "--md-pages 300",
         ("Good", b"clusters 2 free 0 pages 300 free 300\n"),
     ),
-    (19, "--cluster 16384 --md-pages 16", ("Image", b"")),
-    (0, "", ("Image", b"")),
-    (64, "--cluster 17592186040320", ("Image", b"")),
+    (
+        19,
+        "--cluster 16384 --md-pages 16",
+        (
+            "Image { fault: Super(DeviceTooSmall { has: 19, wants: 20 }) }",
+            b"",
+        ),
+    ),
+    (
+        0,
+        "",
+        (
+            "Image { fault: Super(DeviceTooSmall { has: 0, wants: 256 }) }",
+            b"",
+        ),
+    ),
+    (
+        64,
+        "--cluster 17592186040320",
+        (
+            "Image { fault: Super(BadClusterSize { found: 4294967295 }) }",
+            b"",
+        ),
+    ),
     (64, "--cluster 17592186044416", ("Usage", b"")),
-    (64, "--md-pages 4294967295", ("Image", b"")),
+    (
+        64,
+        "--md-pages 4294967295",
+        (
+            "Image { fault: Super(TooManyPages { found: 4294967295 }) }",
+            b"",
+        ),
+    ),
     (64, "--md-pages 4294967296", ("Usage", b"")),
     (64, "--cluster 4097", ("Usage", b"")),
     (64, "--cluster 0", ("Usage", b"")),
@@ -144,7 +171,7 @@ fn a_new_store_is_empty(rt: HostRuntime) -> Result<(), TestFail> {
 }
 
 /// How a format ends of which a call of the device fails.
-const FAILED: End<'static> = ("Device", b"");
+const FAILED: End<'static> = ("Device { at: 0 }", b"");
 
 /// A call of the device that fails, and how the format ends. There are 19 writes of metadata pages and masks, a flush,
 /// the write of the super block, and a flush.

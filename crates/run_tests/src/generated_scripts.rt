@@ -1,9 +1,8 @@
 //! Generated scripts, as an administrator asks for them.
 
-use crate::calls::{End, expect_end};
 use page_disk::MemDisk;
 use std::test::Fail;
-use test_runs::Call;
+use test_runs::{Call, End, expect_end};
 
 const SCRIPT: &[u8] =
     b"0 create v0 8 thin\n1 create v1 8 thin\n2 create v2 8 thin\n3 create v3 8 thin\n\

@@ -4,8 +4,6 @@
 #![tactic(auto)]
 
 #[cfg(test)]
-mod calls;
-#[cfg(test)]
 mod device_pages;
 #[cfg(test)]
 mod exercises;
@@ -15,6 +13,8 @@ mod failures;
 mod formats;
 #[cfg(test)]
 mod generated_scripts;
+#[cfg(test)]
+mod listed;
 #[cfg(test)]
 mod listings;
 #[cfg(test)]

@@ -1,11 +1,11 @@
 //! Stores and their volumes, as they are listed.
 
-use crate::calls::{LIST, expect_end, expect_listed};
 use crate::formats::{expect_new_store, failing};
+use crate::listed::{LIST, expect_listed};
 use page_disk::{CallKind, MemDisk};
 use std::alloc::Global;
 use std::test::Fail;
-use test_runs::run;
+use test_runs::{expect_end, run};
 use test_stores::{LAST, NAMED, PageRow, THICK, THIN, image_with_super, store};
 
 /// A script that is run on a new store, and what is listed behind it.

@@ -1,11 +1,11 @@
 //! New logical volume stores, as an administrator makes them.
 
-use crate::calls::{expect_end, expect_listed};
 use crate::device_pages::{BytesRow, expect_bytes};
+use crate::listed::expect_listed;
 use page_disk::MemDisk;
 use std::alloc::Global;
 use std::test::Fail;
-use test_runs::{Call, play};
+use test_runs::{Call, expect_end, play};
 use test_stores::is_zeros;
 
 /// A new logical volume store of 16 clusters, with room for the changes of a test.

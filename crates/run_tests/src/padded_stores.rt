@@ -1,7 +1,7 @@
 //! Logical volume stores of another maker, whose names are padded with NULs to 64 bytes.
 
-use crate::calls::expect_listed;
 use crate::device_pages::patch_super;
+use crate::listed::expect_listed;
 use page_disk::MemDisk;
 use std::alloc::Global;
 use std::test::Fail;

@@ -1,10 +1,9 @@
 //! Calls of the device that fail where pages are written and read.
 
-use crate::calls::expect_end;
 use page_disk::{CallKind, Fail, FaultDisk, MemDisk};
 use std::alloc::Global;
 use std::test::Fail as TestFail;
-use test_runs::{Call, play};
+use test_runs::{Call, expect_end, play};
 use test_stores::image;
 
 /// A store whose volume `v` has two slots: thin ones, or thick ones.

@@ -2,8 +2,10 @@
 #![tactic(auto)]
 
 mod cases;
+mod ends;
 mod runs;
 
 pub use blob_tool::Status;
 pub use cases::{On, Scheduled, TwoRuns, expect_scheduled, expect_two_runs};
+pub use ends::{End, expect_end};
 pub use runs::{Call, Ran, expect_printed, perform, play, run};

@@ -1,12 +1,13 @@
-//! How runs end.
+//! How calls of the program end.
 
+use crate::runs::{Call, Ran, expect_printed, perform};
+use blob_tool::Status;
 use page_disk::PageDisk;
 use std::alloc::Global;
 use std::test::Fail;
-use test_runs::{Call, Ran, Status, expect_printed, perform};
 
-/// How a call ends: its status, as it is shown, and what is printed.
-pub(crate) type End<'a> = (&'a str, &'a [u8]);
+/// How a call ends: its status, as `Debug` shows it, and what is printed.
+pub type End<'a> = (&'a str, &'a [u8]);
 
 /// Expects a status, as it is shown, or fails.
 fn expect_status(alloc: Global, status: &Status, wanted: &str) -> Result<(), Fail> {
@@ -18,7 +19,7 @@ fn expect_status(alloc: Global, status: &Status, wanted: &str) -> Result<(), Fai
 }
 
 /// The device after a call that ends so; fails where it ends otherwise.
-pub(crate) fn expect_end<D: PageDisk + Drop + Send>(
+pub fn expect_end<D: PageDisk + Drop + Send>(
     alloc: Global,
     call: &Call<'_>,
     end: End<'_>,
@@ -30,11 +31,3 @@ pub(crate) fn expect_end<D: PageDisk + Drop + Send>(
     expect_printed(&out, printed)?;
     Ok(disk)
 }
-
-/// A run that asks how much is clear.
-pub(crate) static DF: Call<'static> = Call {
-    line: "run store.img",
-    script: b"0 df\n",
-    failing_reads: &[],
-    failing_writes: &[],
-};

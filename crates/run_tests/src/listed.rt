@@ -1,0 +1,24 @@
+//! What a store lists of itself.
+
+use page_disk::{MemDisk, PageDisk};
+use std::alloc::Global;
+use std::test::Fail;
+use test_runs::{Call, expect_end};
+
+/// The call that lists a store and its volumes.
+pub(crate) static LIST: Call<'static> = Call {
+    line: "list store.img",
+    script: b"no script",
+    failing_reads: &[],
+    failing_writes: &[],
+};
+
+/// The device of a store of which this is listed, and to which nothing is written for it; fails where it isn't so.
+pub(crate) fn expect_listed(alloc: Global, printed: &[u8], disk: MemDisk) -> Result<MemDisk, Fail> {
+    let clock = disk.clock();
+    let disk = expect_end(alloc, &LIST, ("Good", printed), disk)?;
+    if disk.clock() != clock {
+        return Err(Fail::new("it wrote"));
+    }
+    Ok(disk)
+}
