@@ -1,5 +1,5 @@
 -- What attributes say once one is taken away, and which marks and parents they name.
-use Rattle.std.proofs.Common.{◌≡◌, ℕ, ◌+◌, ◌-◌, ◌<◌, ◌^◌, true, false, Option, Some, None, [], ◌∷◌, refl, sym, ap, ◌∙◌}
+use Rattle.std.proofs.Common.{◌≡◌, ℕ, ◌+◌, ◌-◌, ◌<◌, ◌^◌, ◌×◌, true, false, Option, Some, None, [], ◌∷◌, refl, sym, ap, ◌∙◌}
 use Rattle.std.proofs.Common.{inl, inr, arith}
 use Rattle.std.specs.Prelude.{codes, nat_lt, if◌then◌else◌}
 use Rattle.std.specs.Option.{option_and_then, option_map_or}
@@ -17,41 +17,39 @@ use Rattle.snapshots.specs.Marks.{id_bytes, with_named, with_parent_of}
 
 -- ---- one key
 
--- an attribute of another key at the front is passed
-passed : (x : Xattr) (xs : Xattrs) (other : Text) → bytes_eq x.key other ≡ false
-    → value_of (x ∷ xs) other ≡ value_of xs other
-passed x xs other apart = rw apart refl
-
--- one of the key at the front has its value
-found_first : (x : Xattr) (xs : Xattrs) (key : Text) → bytes_eq x.key key ≡ true
-    → value_of (x ∷ xs) key ≡ Some x.value
-found_first x xs key same = rw same refl
+-- a key without a value isn't that of the first attribute, and has none among the others
+past_first : (x : Xattr) (xs : Xattrs) (key : Text) → value_of (x ∷ xs) key ≡ None
+    → (bytes_eq x.key key ≡ false) × (value_of xs key ≡ None)
+past_first x xs key none = elim (cases_Bool (bytes_eq x.key key)) [
+  | inl same ↦
+      let first : value_of (x ∷ xs) key ≡ Some x.value = rw same refl in
+      let bad : Some x.value ≡ None = sym first ∙ none in absurd (cc bad)
+  | inr differs ↦
+      let others : value_of (x ∷ xs) key ≡ value_of xs key = rw differs refl in (differs, sym others ∙ none)
+]
 
 -- a key that is taken away has no value then
 pub none_without : (xs : Xattrs) (key : Text) → value_of (without xs key) key ≡ None
 none_without [] key = refl
 none_without (x ∷ xs) key = elim (cases_Bool (bytes_eq x.key key)) [
   | inl same ↦ rw same (none_without xs key)
-  | inr differs ↦ rw differs (passed x (without xs key) key differs ∙ none_without xs key)
+  | inr differs ↦ rw (differs, differs) (none_without xs key)
 ]
 
 -- an attribute that isn't there is none to take away,
 pub without_none : (xs : Xattrs) (key : Text) → value_of xs key ≡ None → without xs key ≡ xs
 without_none [] key none = refl
-without_none (x ∷ xs) key none = elim (cases_Bool (bytes_eq x.key key)) [
-  | inl same ↦ let bad : Some x.value ≡ None = sym (found_first x xs key same) ∙ none in absurd (cc bad)
-  | inr differs ↦ rw differs (ap (λ ys. x ∷ ys) (without_none xs key (sym (passed x xs key differs) ∙ none)))
-]
+without_none (x ∷ xs) key none =
+    let apart = past_first x xs key none in
+    rw apart.0 (ap (λ ys. x ∷ ys) (without_none xs key apart.1))
 
 -- and a new one that is set and taken away leaves what was there
 pub without_set : (xs : Xattrs) (key value : Text) → value_of xs key ≡ None
     → without (with_value xs key value) key ≡ xs
 without_set [] key value none = rw ((bytes_eq-Decides key key).1 refl) refl
-without_set (x ∷ xs) key value none = elim (cases_Bool (bytes_eq x.key key)) [
-  | inl same ↦ let bad : Some x.value ≡ None = sym (found_first x xs key same) ∙ none in absurd (cc bad)
-  | inr differs ↦ rw (differs, differs)
-      (ap (λ ys. x ∷ ys) (without_set xs key value (sym (passed x xs key differs) ∙ none)))
-]
+without_set (x ∷ xs) key value none =
+    let apart = past_first x xs key none in
+    rw (apart.0, apart.0) (ap (λ ys. x ∷ ys) (without_set xs key value apart.1))
 
 -- ---- ids
 
