@@ -17,7 +17,7 @@ use Rattle.store_model.specs.Phases.{marking, OnlyMend, Phase, phases_of, replac
 use Rattle.store_model.specs.Phases.{Replacing}
 use Rattle.store_model.specs.RunInvariant.{AreStored, RunInvariant}
 use Rattle.store_model.specs.StoreState.{ForCommand, ForInsert, ForRepair, going_on, JobState, StoreState}
-use Rattle.store_model.specs.StoreState.{store_turns_left as turns_of}
+use Rattle.store_model.specs.StoreState.{turns_left as turns_of}
 use Rattle.store_model.specs.Turning.{Runs}
 use Rattle.store_model.proofs.Progress.{same_job, turns_here}
 use Rattle.repair_runs.specs.RepairLaws.{GoesOnMending, HasBegunToMend}

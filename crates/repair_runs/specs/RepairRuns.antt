@@ -7,7 +7,7 @@ use Rattle.store_model.specs.Cases.{Kind, Run, the}
 use Rattle.store_model.specs.Cases as kind
 use Rattle.store_model.specs.Maps.{Metas}
 use Rattle.store_model.specs.Phases.{Phase, Replaces, Replacing}
-use Rattle.store_model.specs.StoreState.{ForRepair, JobState, StoreState, store_turns_left as turns_of}
+use Rattle.store_model.specs.StoreState.{ForRepair, JobState, StoreState, turns_left as turns_of}
 
 -- ---- turns
 
