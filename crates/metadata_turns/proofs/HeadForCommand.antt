@@ -16,7 +16,7 @@ use Rattle.store_model.specs.Jobs.{Does, IsStep, ReadsZeros}
 use Rattle.store_model.specs.Maps.{Map}
 use Rattle.store_model.specs.Phases.{erasing, has_commit, page_in, with_live, Committing, Phase, Replaces, Replacing}
 use Rattle.store_model.specs.Shown.{fixed_of}
-use Rattle.store_model.specs.StoreState.{going_on, live_change as live_shown, logged, shown, ForCommand, ForInsert}
+use Rattle.store_model.specs.StoreState.{going_on, live_of as live_shown, logged, shown, ForCommand, ForInsert}
 use Rattle.store_model.specs.StoreState.{JobState, StoreState}
 use Rattle.store_model.specs.WithReplaced.{made_by, with_replaced}
 use Rattle.running_store.specs.Blobs.{commit_of, live_change, numbered_in, CanBeKept}
