@@ -4,27 +4,19 @@ use Rattle.super_block.specs.declared.page.Super.{Super}
 use Rattle.store_model.specs.Maps.{Metas}
 use Rattle.store_model.specs.Rows.{OpenClaim, Row, Rows, with_row}
 use Rattle.store_model.specs.Places.{ClaimsDiffer, Unclaimed, UsedClusters, claimed_by, HasClaim, IsClaimed}
-use Rattle.std.proofs.lemmas.Bool.{cases_eq}
-use Rattle.store_model.proofs.RowsKept.{row_here, row_other}
+use Rattle.store_model.proofs.RowsKept.{row_same}
 use Rattle.store_model.specs.StoreState.{JobState}
 use Rattle.md_chain.specs.Chain.{is_among}
 
--- a row without a claim is another without one: each row has the claim that it had
-pub with_row_claims : (rows : Rows) (channel : ℕ) (row : Row) → (rows channel).claim ≡ None → row.claim ≡ None → (c : ℕ)
-    → (with_row rows channel row c).claim ≡ (rows c).claim
-with_row_claims rows channel row none given c = elim (cases_eq c channel) [
-  | inl e ↦ ap (λ (r : Row). r.claim) (row_here rows channel row c e) ∙ given ∙ sym none
-      ∙ ap (λ k. (rows k).claim) (sym e)
-  | inr ne ↦ ap (λ (r : Row). r.claim) (row_other rows channel row c ne)
-]
-
--- a row is another with the same claim
+-- a row is another with the same claim: each row has the claim that it had
 pub with_row_same : (rows : Rows) (channel : ℕ) (row : Row) → row.claim ≡ (rows channel).claim → (c : ℕ)
     → (with_row rows channel row c).claim ≡ (rows c).claim
-with_row_same rows channel row same c = elim (cases_eq c channel) [
-  | inl e ↦ ap (λ (r : Row). r.claim) (row_here rows channel row c e) ∙ same ∙ ap (λ k. (rows k).claim) (sym e)
-  | inr ne ↦ ap (λ (r : Row). r.claim) (row_other rows channel row c ne)
-]
+with_row_same rows channel row = row_same rows channel row (λ r. r.claim)
+
+-- as of one without a claim that was without one
+pub with_row_claims : (rows : Rows) (channel : ℕ) (row : Row) → (rows channel).claim ≡ None → row.claim ≡ None → (c : ℕ)
+    → (with_row rows channel row c).claim ≡ (rows c).claim
+with_row_claims rows channel row none given = with_row_same rows channel row (given ∙ sym none)
 
 -- rows with the same claims have claimed the same clusters
 pub claimed_still : (rows other : Rows) → ((c : ℕ) → (other c).claim ≡ (rows c).claim) → (cluster : ℕ)

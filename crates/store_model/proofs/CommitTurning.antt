@@ -1,8 +1,7 @@
 -- The turn commits keeps what every state has.
-use Rattle.std.proofs.Common.{◌^◌, ◌≤◌, ◌≡◌, ℕ, List, [], ◌∷◌, Some, None, refl, subst, sym, ap, ◌∙◌, arith, inl, inr}
-use Rattle.std.proofs.Common.{Bool, ◌+◌, ◌<◌, Option, ◌++◌, ◌≢◌, true, ◌/◌}
+use Rattle.std.proofs.Common.{◌≡◌, ℕ, [], ◌∷◌, Some, None, refl, subst, sym, ap, ◌∙◌, arith}
+use Rattle.std.proofs.Common.{Bool, Option, ◌++◌, ◌≢◌, true, ◌/◌}
 use Rattle.std.specs.Option.{option_map, option_map_or}
-use Rattle.super_block.specs.declared.page.Super.{Super}
 use Rattle.super_block.specs.Numbers.{cluster_pages_of}
 use Rattle.volume_model.specs.Volumes.{Volumes, Volume}
 use Rattle.volume_model.specs.Logs.{replay}
@@ -10,41 +9,38 @@ use Rattle.volume_model.specs.Steps.{change, Allowed}
 use Rattle.volume_model.specs.Xattrs.{Xattrs}
 use Rattle.blob_meta.specs.declared.meta.Meta.{Meta}
 use Rattle.blob_meta.specs.Repairs.{HasNoMarks}
-use Rattle.blob_meta.specs.Resolving.{IsLawful, resolved, slots_together}
+use Rattle.blob_meta.specs.Resolving.{resolved}
 use Rattle.md_chain.specs.Chain.{is_among}
 use Rattle.store_model.specs.Maps.{without_entry}
 use Rattle.store_model.specs.Rows.{Answered, Decided, Row}
 use Rattle.store_model.specs.StoreState.{JobState, StoreState, shown, logged, going_on}
-use Rattle.store_model.specs.Turning.{live_of, read_after_write}
+use Rattle.store_model.specs.Turning.{live_of}
 use Rattle.store_model.specs.WithReplaced.{with_replaced}
 use Rattle.store_model.specs.Cases.Commit.{Commits}
 use Rattle.store_model.specs.Shown.{fixed_of, volume_of}
-use Rattle.store_model.specs.Jobs.{gained_by, inserted_by, JobStands, CanReplace, Does, Lays, shown_of}
+use Rattle.store_model.specs.Jobs.{gained_by, inserted_by, JobStands, Does, Lays, shown_of}
 use Rattle.store_model.specs.Jobs.{MovesClusters, ReadsZeros, zeros_in}
-use Rattle.store_model.specs.RunInvariant.{RunInvariant, CanBeWritten, RunsWell}
-use Rattle.store_model.specs.Steady.{IsStored}
-use Rattle.store_model.specs.Places.{held_by, UsedPages, AreDistinct, claimed_by}
+use Rattle.store_model.specs.RunInvariant.{RunInvariant, CanBeWritten}
+use Rattle.store_model.specs.Places.{UsedPages, claimed_by}
 use Rattle.store_model.specs.Seen.{seen}
 use Rattle.store_model.specs.Copying.{AreCopied}
-use Rattle.store_model.specs.Phases.{Replacing, has_commit, page_in, taken_in, Replaces, held_in, replaced}
-use Rattle.store_model.specs.Phases.{behind, taken_by}
+use Rattle.store_model.specs.Phases.{Replacing, has_commit, page_in, Replaces, replaced}
+use Rattle.store_model.specs.Phases.{behind}
 use Rattle.store_model.specs.Guarding.{AreGenerations, frozen_behind}
 use Rattle.store_model.proofs.CopiesCommitted.{copied_committed}
+use Rattle.store_model.proofs.AtHead.{at_head}
+use Rattle.store_model.proofs.FactsKept.{facts_with, log_kept, metadata_replaced}
 use Rattle.store_model.proofs.Known.{Known}
 use Rattle.store_model.proofs.Progress.{NoneWaits, none_after}
 use Rattle.store_model.proofs.Shaped.{shaped_with, decided_may, waits_for_commit}
 use Rattle.store_model.proofs.Writable.{AllWritable}
-use Rattle.store_model.proofs.ReplacedBlob.{chains_replaced, generation_kept, generations_replaced, low_replaced}
-use Rattle.store_model.proofs.ReplacedBlob.{pages_replaced, there_before}
-use Rattle.store_model.proofs.Shows.{or_empty, shown_written}
-use Rattle.store_model.proofs.Sets.{among_either, AllBelow}
-use Rattle.store_model.proofs.UsedCommitted.{old_distinct}
-use Rattle.store_model.proofs.WithEntry.{option_all}
-use Rattle.store_model.proofs.StateKept.{allowed_here, log_kept, replay_plain, LogKept}
+use Rattle.store_model.proofs.ReplacedBlob.{generation_kept, generations_replaced}
+use Rattle.store_model.proofs.ReplacedBlob.{there_before}
+use Rattle.store_model.proofs.Shows.{or_empty}
+use Rattle.store_model.proofs.StateKept.{allowed_here, replay_plain}
 use Rattle.store_model.proofs.Seen.{change_seen, metadata_seen}
-use Rattle.store_model.proofs.LeftToDo.{no_place, goes_on_as, held_after, among_left, none_claimed_after}
-use Rattle.store_model.proofs.LeftToDo.{among_taken}
-use Rattle.store_model.proofs.JobKept.{claimed_unread, copied_put, held_low, no_other, held_is, served_does}
+use Rattle.store_model.proofs.LeftToDo.{no_place, goes_on_as, held_after, none_claimed_after}
+use Rattle.store_model.proofs.JobKept.{claimed_unread, copied_put, no_other, served_does, written_same}
 use Rattle.store_model.proofs.Copies.{row_unclaimed}
 use Rattle.store_model.proofs.OneReplacement.{some_pages}
 use Rattle.store_model.proofs.Claims.{with_row_claims}
@@ -79,17 +75,7 @@ module _ (known : Known) where
     abbrev now : StoreState
     now = logged base channel command rest t.commit.reply t.device
 
-    well : RunsWell first p
-    well = facts.well t.running.runs
-
-    stood : JobStands p j
-    stood = well.job j t.running.is
-
-    lays : Lays p.super p.base p.chains (gained_by p.rows j) j.written (Replaces r (Some t.commit) ∷ t.running.rest)
-    lays = subst (Lays p.super p.base p.chains (gained_by p.rows j) j.written) t.running.next stood.lays
-
-    can : CanReplace p.super p.base p.chains (gained_by p.rows j) j.written r
-    can = lays.0
+    open at_head known r (Some t.commit) t.running use {well, stood, lays, can, under, left, chains, pages}
 
     commits_here : has_commit j.todo ≡ true
     commits_here = ap has_commit t.running.next
@@ -98,35 +84,6 @@ module _ (known : Known) where
         (Replaces r (Some t.commit) ∷ t.running.rest)
     does = subst (Does (ReadsZeros p.super j.claimed) p.super p.base p.live command) t.running.next
         (served_does known j t.running.is t.running.runs t.served commits_here)
-
-    abbrev taken : List ℕ
-    taken = taken_by r
-
-    abbrev later : List ℕ
-    later = taken_in t.running.rest
-
-    held : held_by p.job ≡ taken ++ later
-    held = held_is known j t.running.is (Replaces r (Some t.commit)) t.running.rest t.running.next
-
-    differ : AreDistinct (taken ++ later)
-    differ = subst AreDistinct (ap held_in t.running.next) stood.distinct
-
-    used : UsedPages p.super.md_len p.pages p.chains (taken ++ later)
-    used = subst (UsedPages p.super.md_len p.pages p.chains) held well.pages
-
-    head_low : r.head < p.super.md_len
-    head_low = low_replaced p.super p.base p.chains well.chains p.pages r later can.chain can.unerased can.gone used
-        (λ m is. (can.stored m is).low)
-
-    under : r.head < s.md_len
-    under = subst (λ (y : Super). r.head < y.md_len) facts.super head_low
-
-    low : AllBelow p.super.md_len (r.head ∷ r.fresh)
-    low x among = elim (among_either x r.head r.fresh among) [
-      | inl e ↦ subst (λ n. n < p.super.md_len) (sym e) head_low
-      | inr f ↦ subst (λ (y : Super). x < y.md_len) (sym facts.super)
-          (held_low known well (taken ++ later) held x (among_left x taken later (among_taken r x f)))
-    ]
 
     row_claims : (c : ℕ) → (now.rows c).claim ≡ (p.rows c).claim
     row_claims = with_row_claims p.rows channel (record { left = rest; stage = Decided Answered; claim = None })
@@ -151,17 +108,11 @@ module _ (known : Known) where
         ∙ stood.zeroed page among (ap (λ todo. is_among page (zeros_in todo)) t.running.next)
 
     shows : shown now ≡ w
-    shows =
-        let at : t.device.reads
-        ≡ read_after_write told p.device.reads (s.md_start + r.head) (page_in r.planned r.head) =
-        t.moves.reads ∙ ap (λ (y : Super).
-        read_after_write told p.device.reads (y.md_start + r.head) (page_in r.planned r.head)) facts.super in
-        let same : shown_of p.super p.base p.live t.device.reads ≡ shown p = shown_written told s p t.device r.head
-        (page_in r.planned r.head) facts.super facts.stored facts.lawful placed under at in
-        let step = does.0.shows t.device.reads zeros_read in
-        subst (λ (v : Volumes). shown_of p.super
+    shows = subst (λ (v : Volumes). shown_of p.super
         (replaced p.base r) (live_of (change (fixed_of p.super) v command t.commit.reply)) t.device.reads
-        ≡ change (fixed_of p.super) v command t.commit.reply) same step
+        ≡ change (fixed_of p.super) v command t.commit.reply)
+        (written_same known told (record p { device = t.device }) r.head (page_in r.planned r.head) refl under
+        t.moves.reads) (does.0.shows t.device.reads zeros_read)
 
     -- what was copied of empty slots is their content still
     copied_new : AreCopied now
@@ -202,8 +153,7 @@ module _ (known : Known) where
         record {
           lays = subst (λ l. Lays p.super now.base now.chains l [] t.running.rest)
               (sym (ap (λ x. inserted_by now.rows x ++ []) serves)) lays.2;
-          distinct = subst AreDistinct (sym lays.1)
-              (old_distinct p.super p.base p.chains well.chains p.pages r later can.chain can.unerased used differ);
+          distinct = left;
           served = λ c serves waits. absurd (let bad = sym does.1 ∙ waits in cc bad);
           inserts = λ row bad. absurd (let e = sym serves ∙ bad in cc e);
           keeps = λ none other. does.2;
@@ -218,30 +168,19 @@ module _ (known : Known) where
 
     pub keeps : RunInvariant s first script q
     keeps =
-        let kept : LogKept known now =
-        log_kept known (Decided Answered) base channel command rest t.commit.reply t.device refl refl refl refl
-        (ap (λ (x : Row). x.left) row) (let c = t.moves.clock in omega (arith, c))
-        (subst (Allowed (fixed_of s) (replay (fixed_of s) first (seen p.tells p.log)) command)
-        (sym (change_seen p.tells t.commit.reply t.done))
-        (allowed_here known command t.commit.reply t.running.runs (does.0.allowed p.device.reads))) in
         let done_so : RunInvariant s first script now =
-        record {
-          super = facts.super;
-          stored = option_all p.base r.head r.new (IsStored s) facts.stored
-              (λ m is. subst (λ (y : Super). IsStored y r.head m) facts.super (can.stored m is));
-          named = can.named;
-          few = subst (λ (y : Super). slots_together y.md_len (replaced p.base r) ≤ 2 ^ 24) facts.super can.few;
-          lawful = subst (λ (y : Super). IsLawful y.md_len (resolved (replaced p.base r))) facts.super can.lawful;
-          legal = kept.legal;
+        facts_with known now refl (metadata_replaced known (gained_by p.rows j) j.written r can) (record {
+          logs = log_kept known (Decided Answered) base channel command rest t.commit.reply t.device refl refl refl refl
+              (ap (λ (x : Row). x.left) row) (let c = t.moves.clock in omega (arith, c))
+              (subst (Allowed (fixed_of s) (replay (fixed_of s) first (seen p.tells p.log)) command)
+              (sym (change_seen p.tells t.commit.reply t.done))
+              (allowed_here known command t.commit.reply t.running.runs (does.0.allowed p.device.reads)));
           well = λ on. record {
-            chains = chains_replaced p.super p.base p.chains well.chains p.pages r later can.chain can.unerased can.gone
-                used differ low;
+            chains = chains;
             live = live_new;
             no_live = no_live_new;
             pages = subst (UsedPages p.super.md_len now.pages now.chains)
-                (sym (held_after (record j { claimed = [] }) [] t.running.rest ∙ lays.1))
-                (pages_replaced p.super p.base p.chains well.chains p.pages r later can.chain can.unerased can.gone used
-                differ);
+                (sym (held_after (record j { claimed = [] }) [] t.running.rest)) pages;
             clusters = clusters_moved p.super p.clusters p.base (replaced p.base r) r.freed p.rows now.rows p.job
                 next_job row_claims none_claimed (subst (MovesClusters p.super p.base (replaced p.base r) r.freed)
                 (ap (λ x. inserted_by p.rows x ++ j.claimed) serves ∙ ap claimed_by (sym t.running.is)) can.clusters)
@@ -255,7 +194,6 @@ module _ (known : Known) where
             replayed = shows ∙ sym (replay_plain known channel command t.commit.reply t.running.runs
                 (metadata_seen p.tells command does.0.metadata) (change_seen p.tells t.commit.reply t.done));
           };
-          way = kept.way;
           shaped = shaped_with p facts.shaped now channel _ refl
               (no_other known j t.running.is channel (waits_for_commit j channel serves commits_here) now)
               (decided_may now channel rest)
@@ -264,11 +202,9 @@ module _ (known : Known) where
               absurd (let bad = sym does.1 ∙ ap (λ (i : JobState). has_commit i.todo) (sym g.is) ∙ waits in cc bad));
           guarded = guarded_behind p now facts.guarded j
               (record j { claimed = [] }) t.running.is refl t.running.runs t.running.rest refl refl;
-          counted = kept.counted;
-          past = kept.past;
           halted = λ n halts. absurd (let bad = sym t.running.runs ∙ halts in cc bad);
           unfinished = λ k is.
               let g = goes_on_as (record j { claimed = [] }) [] t.running.rest k is in
               subst (λ (i : JobState). i.todo ≢ []) (sym g.is) g.some;
-        } in
+        }) in
         subst (RunInvariant s first script) (sym t.next) done_so

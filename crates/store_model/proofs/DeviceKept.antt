@@ -5,7 +5,6 @@ use Rattle.md_chain.specs.Chain.{is_among}
 use Rattle.super_block.specs.Numbers.{cluster_pages_of}
 use Rattle.store_model.specs.Places.{claimed_by}
 use Rattle.std.proofs.Common.{◌≡◌, ◌≤◌, None, Option, refl, sym, ap, ◌∙◌, subst, arith}
-use Rattle.std.proofs.lemmas.List.Elements.{All-weaker}
 use Rattle.volume_model.specs.Volumes.{Volumes}
 use Rattle.volume_model.specs.Steps.{Allowed}
 use Rattle.volume_model.specs.declared.command.Command.{Command}
@@ -16,11 +15,11 @@ use Rattle.store_model.specs.Shown.{fixed_of}
 use Rattle.store_model.specs.StoreState.{shown, StoreState}
 use Rattle.store_model.specs.RunInvariant.{RunInvariant}
 use Rattle.store_model.proofs.Copies.{copied_same}
+use Rattle.store_model.proofs.FactsKept.{claims_kept, facts_kept, log_stays, runs_on}
 use Rattle.store_model.proofs.Guarding.{guarded_same}
 use Rattle.store_model.proofs.Known.{Known}
 use Rattle.store_model.proofs.Moved.{stands_same}
-use Rattle.store_model.proofs.RowsKept.{way_kept}
-use Rattle.store_model.proofs.Shaped.{serves, serves_same, shaped_same}
+use Rattle.store_model.proofs.Shaped.{shaped_still}
 
 module _ (known : Known) where
   open known use {s, placed, first, script, p, facts}
@@ -42,40 +41,23 @@ module _ (known : Known) where
       → RunInvariant s first script (record p { device = d; filling = filling })
   device_by filling d same copied zeroed later =
       let now : StoreState = record p { device = d; filling = filling } in
-      record {
-        super = facts.super;
-        stored = facts.stored;
-        named = facts.named;
-        few = facts.few;
-        lawful = facts.lawful;
-        legal = facts.legal;
+      facts_kept known now refl refl (record {
+        logs = log_stays known now refl refl refl (λ c. refl) later;
         well = λ runs.
             let well = facts.well runs in
-            record {
-              chains = well.chains;
-              live = well.live;
-              no_live = well.no_live;
+            runs_on first p now well refl (record {
               pages = well.pages;
-              clusters = well.clusters;
-              claims = well.claims;
-              generations = well.generations;
-              claims_drawn = well.claims_drawn;
-              copied = copied runs;
+              held = claims_kept first p now well refl refl refl refl (λ c. refl) refl (copied runs);
               job = λ j is. stands_same p now refl refl refl refl refl j (λ c in_job. refl)
                   (λ page among. zeroed page (ap (λ o. is_among (page / cluster_pages_of p.super) (claimed_by o)) is
                   ∙ among)) (well.job j is);
               replayed = same ∙ well.replayed;
-            };
-        way = way_kept script p facts.way now refl (λ c. refl);
-        shaped = shaped_same p now facts.shaped refl
-            (λ c in_job. serves_same p now refl c (serves p facts.shaped c in_job)) facts.shaped.served;
+            });
+        shaped = shaped_still p now facts.shaped refl refl;
         guarded = guarded_same p now refl refl refl facts.guarded;
-        counted = facts.counted;
-        past = All-weaker (λ t. t ≤ p.device.clock) (λ t. t ≤ d.clock)
-            (λ t le. omega (arith, le, later)) p.marks facts.past;
         halted = facts.halted;
         unfinished = facts.unfinished;
-      }
+      })
 
   -- the fill's row works for another command, or for none
   pub filling_facts : (filling : Option ℕ) → RunInvariant s first script (record p { filling = filling })

@@ -10,10 +10,11 @@ use Rattle.store_model.specs.RunInvariant.{IsShaped, RunInvariant}
 use Rattle.store_model.specs.Shown.{fixed_of}
 use Rattle.store_model.specs.StoreState.{JobState, logged_here, logged_to, shown, StoreState}
 use Rattle.store_model.specs.Turning.{stopped_now}
+use Rattle.store_model.proofs.FactsKept.{facts_kept, log_kept}
 use Rattle.store_model.proofs.Guarding.{none_guarded}
 use Rattle.store_model.proofs.Known.{Known}
-use Rattle.store_model.proofs.Shaped.{idle_may, served_still, serves, serves_same, shaped_with}
-use Rattle.store_model.proofs.StateKept.{allowed_here, log_kept, LogKept, not_in_job}
+use Rattle.store_model.proofs.Shaped.{idle_may, shaped_row}
+use Rattle.store_model.proofs.StateKept.{allowed_here, not_in_job}
 
 module _ (known : Known) (channel : ℕ) (command : Command) (rest : List Command) (device : Device) where
   open known use {s, first, script, p, facts}
@@ -28,27 +29,17 @@ module _ (known : Known) (channel : ℕ) (command : Command) (rest : List Comman
   failed_keeps next job left runs later allowed shaped unfinished =
       let base : StoreState = record (stopped_now p) { job = job } in
       let now : StoreState = logged_to next base channel command rest r.Fault device in
-      let kept : LogKept known now =
-      log_kept known next base channel command rest r.Fault device refl refl refl refl left later
-      (allowed_here known command r.Fault runs allowed) in
-      record {
-        super = facts.super;
-        stored = facts.stored;
-        named = facts.named;
-        few = facts.few;
-        lawful = facts.lawful;
-        legal = kept.legal;
+      facts_kept known now refl refl (record {
+        logs = log_kept known next base channel command rest r.Fault device refl refl refl refl left later
+            (allowed_here known command r.Fault runs allowed);
         well = λ runs. absurd (cc runs);
-        way = kept.way;
         shaped = shaped;
         guarded = none_guarded now (λ head. refl);
-        counted = kept.counted;
-        past = kept.past;
         halted = λ at is.
             let e : length p.log ≡ at = cc is in
             omega (arith, e, length-append p.log (entry_of p.log channel command r.Fault ∷ []));
         unfinished = unfinished;
-      }
+      })
 
   -- the command of a channel that serves itself
   pub idle_fails : p.rows channel ≡ record { left = command ∷ rest; stage = Idle; claim = None } → p.stopped ≡ None
@@ -57,7 +48,6 @@ module _ (known : Known) (channel : ℕ) (command : Command) (rest : List Comman
   idle_fails row runs later allowed =
       let now : StoreState = logged_here (stopped_now p) channel command rest r.Fault device in
       failed_keeps Idle p.job (ap (λ (x : Row). x.left) row) runs later allowed
-      (shaped_with p facts.shaped now channel _ refl
-      (λ n ne in_job. serves_same p now refl n (serves p facts.shaped n in_job)) (idle_may now channel rest)
-      (served_still p now facts.shaped refl channel _ refl (not_in_job known _ _ row (λ bad. cc bad))))
+      (shaped_row p now facts.shaped refl channel _ refl (idle_may now channel rest)
+      (not_in_job known _ _ row (λ bad. cc bad)))
       facts.unfinished

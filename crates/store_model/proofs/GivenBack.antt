@@ -2,7 +2,6 @@
 use Rattle.std.proofs.Common.{◌≡◌, ◌⊎◌, Option, ℕ, ◌≤◌, List, ◌∷◌, length, None, refl, sym, ap, ◌∙◌, subst}
 use Rattle.std.proofs.Common.{arith, inl, inr}
 use Rattle.std.proofs.lemmas.Bool.{cases_eq}
-use Rattle.std.proofs.lemmas.List.Elements.{All-weaker}
 use Rattle.volume_model.specs.Volumes.{Fixed, Volumes}
 use Rattle.volume_model.specs.Steps.{Allowed, HasPassed, IsRefusal, MayFail, MayLackMemory, MayLackPages, MayMissRead}
 use Rattle.volume_model.specs.Logs.{replay}
@@ -27,11 +26,12 @@ use Rattle.store_model.specs.RunInvariant.{RunInvariant}
 use Rattle.store_model.proofs.ClaimSets.{held_without}
 use Rattle.store_model.proofs.DeviceKept.{filling_facts}
 use Rattle.store_model.proofs.Guarding.{none_guarded}
+use Rattle.store_model.proofs.FactsKept.{facts_kept, log_stays}
 use Rattle.store_model.proofs.Known.{Known}
 use Rattle.store_model.proofs.Refusals.{RefusalsChangeNothing}
-use Rattle.store_model.proofs.RowsKept.{row_here, row_other, way_kept}
+use Rattle.store_model.proofs.RowsKept.{row_here, row_other}
 use Rattle.store_model.proofs.Seen.{refusal_seen}
-use Rattle.store_model.proofs.Shaped.{decided_may, MayBe, serves, serves_same, shaped_same}
+use Rattle.store_model.proofs.Shaped.{decided_may, MayBe, shaped_still}
 use Rattle.store_model.proofs.StateKept.{claim_facts, held_here, logged_facts, refused_same}
 
 -- ---- the entry
@@ -181,24 +181,14 @@ module _ (known : Known) where
       → RunInvariant s first script (record (stopped_now p) { device = d })
   stopped_facts d later =
       let now : StoreState = record (stopped_now p) { device = d } in
-      record {
-        super = facts.super;
-        stored = facts.stored;
-        named = facts.named;
-        few = facts.few;
-        lawful = facts.lawful;
-        legal = facts.legal;
+      facts_kept known now refl refl (record {
+        logs = log_stays known now refl refl refl (λ c. refl) later;
         well = λ runs. absurd (cc runs);
-        way = way_kept script p facts.way now refl (λ c. refl);
-        shaped = shaped_same p now facts.shaped refl
-            (λ c in_job. serves_same p now refl c (serves p facts.shaped c in_job)) facts.shaped.served;
+        shaped = shaped_still p now facts.shaped refl refl;
         guarded = none_guarded now (λ head. refl);
-        counted = facts.counted;
-        past = All-weaker (λ t. t ≤ p.device.clock) (λ t. t ≤ d.clock) (λ t le. omega (arith, le, later)) p.marks
-            facts.past;
         halted = λ at is. let e : length p.log ≡ at = cc is in omega (arith, e);
         unfinished = facts.unfinished;
-      }
+      })
 
 -- a row whose first command is logged
 record IsToLog (row : Row) (command : Command) (rest : List Command) : Type 0 where

@@ -1,7 +1,6 @@
 -- What is known once a cluster is put into its slot: every volume is shown as it was.
-use Rattle.std.proofs.Common.{◌≡◌, suc, ◌+◌, ◌*◌, ◌<◌, Bool, List, [], ◌∷◌, Option, Some, None, refl}
+use Rattle.std.proofs.Common.{◌≡◌, suc, ◌+◌, ◌*◌, Bool, List, [], ◌∷◌, Option, Some, None, refl}
 use Rattle.std.proofs.Common.{sym, ap, ◌∙◌, subst}
-use Rattle.super_block.specs.declared.page.Super.{Super}
 use Rattle.super_block.specs.Numbers.{cluster_pages_of}
 use Rattle.page_disk.specs.Disk.{Image}
 use Rattle.blob_meta.specs.declared.meta.Meta.{Meta}
@@ -10,8 +9,7 @@ use Rattle.blob_meta.specs.Resolving.{mark_of, resolved}
 use Rattle.store_model.specs.Claiming.{stage_behind}
 use Rattle.store_model.specs.Copying.{AreCopied, HasCopied, LeavesSlotsEmpty}
 use Rattle.store_model.specs.Inserting.{with_slot}
-use Rattle.store_model.specs.Jobs.{CanReplace, gained_by, InsertStands, JobStands, Lays, IsLeftOfInsert, PutsClaim}
-use Rattle.store_model.specs.Jobs.{shown_of}
+use Rattle.store_model.specs.Jobs.{InsertStands, IsLeftOfInsert, PutsClaim}
 use Rattle.store_model.specs.Steady.{IsStored}
 use Rattle.store_model.specs.Maps.{Metas, with_entry}
 use Rattle.store_model.specs.Phases.{page_in, Phase, rechained, replaced}
@@ -19,20 +17,18 @@ use Rattle.store_model.specs.Phases.{Replaces, Replacing}
 use Rattle.store_model.specs.Rows.{OpenClaim, Row, Stage, with_row}
 use Rattle.store_model.specs.Shown.{content, fixed_of, shown_by}
 use Rattle.store_model.specs.StoreState.{going_on, JobState, shown, StoreState}
-use Rattle.store_model.specs.Turning.{read_after_write}
 use Rattle.store_model.specs.Cases.Insert.{Inserts}
-use Rattle.store_model.specs.RunInvariant.{RunsWell}
+use Rattle.store_model.proofs.AtHead.{at_head, IsAtHead}
 use Rattle.store_model.proofs.CopiesCommitted.{copied_committed}
 use Rattle.store_model.proofs.Copies.{row_unclaimed}
 use Rattle.store_model.proofs.Heads.{rechained_is, replaced_is}
 use Rattle.store_model.proofs.InsertedContent.{Holds, leaves_inserted, shown_same}
-use Rattle.store_model.proofs.JobKept.{copied_put}
+use Rattle.store_model.proofs.JobKept.{copied_put, written_same}
 use Rattle.store_model.proofs.Known.{Known}
 use Rattle.store_model.proofs.OneReplacement.{base_lawful, base_steady, base_resolved, some_pages}
 use Rattle.shown_volumes.proofs.Ranks.{levels, Levels}
 use Rattle.store_model.proofs.WithEntry.{given_all}
 use Rattle.store_model.proofs.Resolved.{unmarked_resolved}
-use Rattle.store_model.proofs.Shows.{shown_written}
 
 module _ (known : Known) where
   open known use {s, placed, first, script, p, facts}
@@ -64,11 +60,11 @@ module _ (known : Known) where
       device = t.device;
     }
 
-    pub well : RunsWell first p
-    well = facts.well t.running.runs
+    -- what is known of the replacement
+    pub replacement : IsAtHead known r None t.running
+    replacement = at_head known r None t.running
 
-    pub stood : JobStands p j
-    stood = well.job j t.running.is
+    open replacement use {well, stood, can, under}
 
     pub inserts : InsertStands p j row
     inserts = stood.inserts row serves
@@ -84,12 +80,6 @@ module _ (known : Known) where
 
     abbrev pub old : Meta
     old = put.wanted.meta
-
-    pub lays : Lays p.super p.base p.chains (gained_by p.rows j) j.written (Replaces r None ∷ rest)
-    lays = subst (Lays p.super p.base p.chains (gained_by p.rows j) j.written) t.running.next stood.lays
-
-    pub can : CanReplace p.super p.base p.chains (gained_by p.rows j) j.written r
-    can = lays.0
 
     pub base_is : replaced p.base r ≡ now.base
     base_is = replaced_is p.base r t.new t.new_is
@@ -126,16 +116,13 @@ module _ (known : Known) where
     ranks = levels p.super.md_len p.base (base_lawful known inserts.unmarked)
         (λ h m is. (base_steady known inserts.unmarked h m is).stored.low)
 
-    pub low : r.head < s.md_len
-    low = subst (λ (x : Super). r.head < x.md_len) facts.super new_stored.low
-
     -- ---- what is shown
 
     abbrev mid : StoreState
     mid = record p { device = t.device }
 
     read : AreCopied mid
-    read = copied_put known told mid r.head (page_in r.planned r.head) refl refl refl refl well low t.moves.reads
+    read = copied_put known told mid r.head (page_in r.planned r.head) refl refl refl refl well under t.moves.reads
 
     abbrev Held : Image → Type 0
     Held = Holds p.super (some_pages known) p.base claim.head old there ranks claim.slot claim.cluster put.within
@@ -154,18 +141,12 @@ module _ (known : Known) where
 
     pub shows : shown now ≡ shown p
     shows =
-        let at : t.device.reads
-        ≡ read_after_write told p.device.reads (s.md_start + r.head) (page_in r.planned r.head) =
-        t.moves.reads ∙ ap (λ (y : Super).
-        read_after_write told p.device.reads (y.md_start + r.head) (page_in r.planned r.head)) facts.super in
-        let same : shown_of p.super p.base p.live t.device.reads ≡ shown p = shown_written told s p t.device r.head
-        (page_in r.planned r.head) facts.super facts.stored facts.lawful placed low at in
         ap (λ (m : Metas). shown_by (fixed_of p.super) t.device.reads m p.live) resolved_all
         ∙ shown_same p.super (some_pages known) p.base claim.head old there ranks claim.slot claim.cluster
         put.within put.wanted.empty t.device.reads holds p.live
         ∙ ap (λ (m : Metas). shown_by (fixed_of p.super) t.device.reads m p.live)
         (sym (base_resolved known inserts.unmarked))
-        ∙ same
+        ∙ written_same known told mid r.head (page_in r.planned r.head) refl under t.moves.reads
 
     pub copied : AreCopied now
     copied = copied_committed mid now read [] refl refl p.generations (λ h n is. is) refl well.claims_drawn

@@ -1,19 +1,18 @@
 -- The job of an insert ends on a store that stops, or has stopped: the command that its row works for is logged.
-use Rattle.std.proofs.Common.{◌≡◌, ℕ, ◌≤◌, Bool, false, length, Some, None, ap, arith, inl, inr, ◌∙◌, refl, sym}
-use Rattle.std.proofs.lemmas.Bool.{cases_eq}
-use Rattle.std.proofs.lemmas.List.Elements.{All-weaker}
+use Rattle.std.proofs.Common.{◌≡◌, ℕ, ◌≤◌, Bool, false, length, Some, None, ap, arith, refl}
 use Rattle.volume_model.specs.declared.reply.Reply.{Reply}
 use Rattle.store_model.specs.Claiming.{given_back, IsInserting}
 use Rattle.store_model.specs.Device.{Device}
 use Rattle.store_model.specs.Rows.{Answered, Decided, Row}
 use Rattle.store_model.specs.StoreState.{JobState, StoreState, waiting}
 use Rattle.store_model.specs.RunInvariant.{RunInvariant}
+use Rattle.store_model.proofs.FactsKept.{facts_kept, log_stays}
 use Rattle.store_model.proofs.GivenBack.{EndsWork, IsLogged, logged_behind, logged_from}
 use Rattle.store_model.proofs.Guarding.{none_guarded}
 use Rattle.store_model.proofs.JobKept.{no_other}
 use Rattle.store_model.proofs.Known.{Known}
 use Rattle.store_model.proofs.Refusals.{RefusalsChangeNothing}
-use Rattle.store_model.proofs.RowsKept.{row_here, row_other, way_kept}
+use Rattle.store_model.proofs.RowsKept.{row_same}
 use Rattle.store_model.proofs.Shaped.{decided_may, shaped_with}
 
 module _ (known : Known) (j : JobState) (is : known.p.job ≡ Some j) (inserting : IsInserting known.p j) (at : ℕ)
@@ -31,28 +30,16 @@ module _ (known : Known) (j : JobState) (is : known.p.job ≡ Some j) (inserting
   back d later =
       let now : StoreState = given_back (record halted { device = d }) row (Decided Answered) in
       let next : Row = record { left = (p.rows row).left; stage = Decided Answered; claim = None } in
-      record {
-        super = facts.super;
-        stored = facts.stored;
-        named = facts.named;
-        few = facts.few;
-        lawful = facts.lawful;
-        legal = facts.legal;
+      facts_kept known now refl refl (record {
+        logs = log_stays known now refl refl refl (row_same p.rows row next (λ r. r.left) refl) later;
         well = λ runs. absurd (cc runs);
-        way = way_kept script p facts.way now refl (λ c. elim (cases_eq c row) [
-          | inl e ↦ ap (λ (r : Row). r.left) (row_here p.rows row next c e) ∙ ap (λ k. (p.rows k).left) (sym e)
-          | inr ne ↦ ap (λ (r : Row). r.left) (row_other p.rows row next c ne)
-        ]);
         shaped = shaped_with p facts.shaped now row next refl
             (no_other known j is row (ap (λ x. waiting x j.todo) serves) now) (decided_may now row next.left)
             (λ job channel bad is_for waits. absurd (cc bad));
         guarded = none_guarded now none;
-        counted = facts.counted;
-        past = All-weaker (λ t. t ≤ p.device.clock) (λ t. t ≤ d.clock) (λ t le. omega (arith, le, later)) p.marks
-            facts.past;
         halted = λ n halts. let e : at ≡ n = cc halts in omega (arith, e, few);
         unfinished = λ job bad. absurd (cc bad);
-      }
+      })
 
   pub insert_stops : RefusalsChangeNothing → (reply : Reply) (d : Device) (q : StoreState) → p.device.clock ≤ d.clock
       → EndsWork reply → IsLogged halted row (Decided Answered) reply d q → RunInvariant s first script q

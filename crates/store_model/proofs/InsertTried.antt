@@ -1,47 +1,24 @@
 -- What images say where a turn failed that would have put a cluster into its slot: the old metadata, or the new.
-use Rattle.std.proofs.Common.{◌≡◌, ◌+◌, [], ◌∷◌, Some, None, refl, sym, ap, ◌∙◌, arith}
-use Rattle.page_disk.specs.Disk.{Image, with_page}
+use Rattle.std.proofs.Common.{◌≡◌, [], ◌∷◌, Some, None, refl, sym}
+use Rattle.page_disk.specs.Disk.{Image}
 use Rattle.page_disk.specs.Moments.{IsReplaced}
 use Rattle.page_disk.specs.declared.disk.PageDisk.{Ghosts}
-use Rattle.super_block.specs.declared.page.Super.{Super}
 use Rattle.blob_meta.specs.declared.meta.Meta.{Meta}
 use Rattle.store_model.specs.Claiming.{IsInserting, stage_behind}
-use Rattle.store_model.specs.Device.{Device}
 use Rattle.store_model.specs.Maps.{with_entry}
 use Rattle.store_model.specs.Phases.{page_in, Replaces, Replacing}
-use Rattle.store_model.specs.Recovers.{Recovers}
 use Rattle.store_model.specs.Rows.{with_row}
 use Rattle.store_model.specs.StoreState.{going_on, StoreState}
-use Rattle.store_model.specs.Surviving.{HoldsMetadata}
-use Rattle.store_model.specs.Touches.{read_now}
-use Rattle.store_model.specs.Turning.{page_of_place, read_after_write, Runs}
+use Rattle.store_model.specs.Turning.{page_of_place, Runs}
 use Rattle.store_model.specs.Cases.{inserts as kind_of_inserts}
 use Rattle.store_model.specs.Cases.Insert.{Inserts}
 use Rattle.store_model.specs.RunInvariant.{RunInvariant}
-use Rattle.store_model.proofs.Going.{told_reads}
-use Rattle.store_model.proofs.Heads.{head_way, image, new_holds}
+use Rattle.store_model.proofs.Heads.{rechained_is, replaced_is, tried_way, would_move, would_read}
 use Rattle.store_model.proofs.Over.{Over, unchanged, Way}
 
 module _ {D : Type 0} (d : Ghosts D) (x : Over d) (r : Replacing) (running : Runs x.p (Replaces r None))
     (inserting : IsInserting x.p running.job) (new : Meta) (new_is : r.new ≡ Some new) where
-  open x use {laws, told, s, placed, first, script, p, from, from_is, from_tells, facts}
-
-  abbrev with_head : Image
-  with_head = image d x r None running
-
-  holds : HoldsMetadata s (with_entry p.base r.head new) (with_entry p.chains r.head (r.head ∷ r.fresh)) with_head
-  holds = new_holds d x r None running new new_is
-
-  -- ---- what the turn would have made of the store
-
-  abbrev would_read : Device
-  would_read = record {
-    reads = read_after_write d.tells p.device.reads (page_of_place p r.head) (page_in r.planned r.head);
-    clock = p.device.clock + 3;
-    read_faults = p.device.read_faults;
-    write_faults = p.device.write_faults;
-    read_calls = p.device.read_calls;
-  }
+  open x use {laws, s, placed, first, script, p, from, facts}
 
   abbrev would_be : StoreState
   would_be = record p {
@@ -50,7 +27,7 @@ module _ {D : Type 0} (d : Ghosts D) (x : Over d) (r : Replacing) (running : Run
     rows = with_row p.rows inserting.row
         (record { left = (p.rows inserting.row).left; stage = stage_behind running.rest; claim = None });
     job = going_on running.job [] running.rest;
-    device = would_read;
+    device = would_read d x r None running;
   }
 
   would : Inserts d.tells p would_be
@@ -60,35 +37,16 @@ module _ {D : Type 0} (d : Ghosts D) (x : Over d) (r : Replacing) (running : Run
     inserting = inserting;
     new = new;
     new_is = new_is;
-    device = would_read;
-    moves = record { reads = refl; clock = omega arith; read_faults = refl; write_faults = refl; read_calls = refl };
+    device = would_read d x r None running;
+    moves = would_move d x r None running;
     next = refl;
   }
 
   would_facts : RunInvariant s first script would_be
   would_facts = laws.plants.keep d.tells s first script p would_be kind_of_inserts placed facts would
 
-  reads_new : would_read.reads ≡ with_head
-  reads_new =
-      ap (λ (v : Device). read_after_write d.tells v.reads (page_of_place p r.head) (page_in r.planned r.head)) from_is
-      ∙ ap (λ b. read_after_write b (read_now d from) (p.super.md_start + r.head) (page_in r.planned r.head)) told
-      ∙ ap (λ (i : Image). with_page i (p.super.md_start + r.head) (page_in r.planned r.head)) (told_reads d from told)
-      ∙ ap (λ (y : Super). with_page (d.now from) (y.md_start + r.head) (page_in r.planned r.head)) facts.super
-
-  recovers : Recovers s first p.log with_head
-  recovers = laws.plants.recovers s first script would_be with_head placed would_facts (from_tells ∙ told) running.runs
-      holds.store holds.says (λ k behind. ap (λ (i : Image). i k) (sym reads_new))
-
   -- an image from before, or the one with the head's page
   pub insert_way : (c : Image)
       → IsReplaced (d.images from) (d.now from) (page_of_place p r.head) (page_in r.planned r.head) c → Way d x c
-  insert_way = head_way d x r None running new new_is (record {
-    store = holds.store;
-    metas = would_be.base;
-    chains = would_be.chains;
-    says = holds.says;
-    stored = would_facts.stored;
-    named = would_facts.named;
-    few = would_facts.few;
-    lawful = would_facts.lawful;
-  }) p.log recovers (unchanged refl)
+  insert_way = tried_way d x r None running would_be (sym (replaced_is p.base r new new_is))
+      (sym (rechained_is p.chains r new new_is)) refl refl running.runs would_facts (unchanged refl)

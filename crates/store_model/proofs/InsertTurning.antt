@@ -1,54 +1,44 @@
 -- The turn inserts keeps what every state has.
-use Rattle.std.proofs.Common.{◌⊎◌, ◌≡◌, ◌≢◌, ℕ, ◌<◌, ◌≤◌, ◌^◌, ◌++◌, Bool, List, [], ◌∷◌, Option, Some, None, refl}
+use Rattle.std.proofs.Common.{◌⊎◌, ◌≡◌, ◌≢◌, ℕ, ◌++◌, Bool, List, [], ◌∷◌, Option, Some, None, refl}
 use Rattle.std.proofs.Common.{sym, ap, ◌∙◌, subst, inl, inr, arith, is_some}
 use Rattle.std.specs.Option.{option_map_or}
 use Rattle.std.proofs.lemmas.Bool.{cases_eq}
-use Rattle.std.proofs.lemmas.List.Elements.{All-weaker}
-use Rattle.super_block.specs.declared.page.Super.{Super}
 use Rattle.volume_model.specs.Xattrs.{Xattrs}
 use Rattle.blob_meta.specs.declared.meta.Meta.{Meta}
 use Rattle.blob_meta.specs.Repairs.{HasNoMarks}
-use Rattle.blob_meta.specs.Resolving.{IsLawful, resolved, slots_together}
+use Rattle.blob_meta.specs.Resolving.{resolved}
 use Rattle.store_model.specs.Claiming.{stage_behind}
 use Rattle.store_model.specs.Inserting.{with_slot}
-use Rattle.store_model.specs.Jobs.{CanReplace, gained_by, inserted_by, InsertStands, JobStands, Lays, IsLeftOfInsert}
+use Rattle.store_model.specs.Jobs.{gained_by, inserted_by, InsertStands, JobStands, Lays, IsLeftOfInsert}
 use Rattle.store_model.specs.Jobs.{PutsClaim}
-use Rattle.store_model.specs.Steady.{AreNamed, CanBeWritten, IsStored}
+use Rattle.store_model.specs.Steady.{CanBeWritten}
 use Rattle.store_model.specs.Maps.{Chains, Metas, with_entry}
-use Rattle.store_model.specs.Phases.{behind, held_in, Phase, rechained, replaced}
-use Rattle.store_model.specs.Phases.{Replaces, Replacing, taken_by, taken_in}
-use Rattle.store_model.specs.Places.{AreDistinct, claimed_by, held_by, IsMapped, UsedPages}
+use Rattle.store_model.specs.Phases.{behind, Phase, rechained, replaced}
+use Rattle.store_model.specs.Phases.{Replaces, Replacing, taken_in}
+use Rattle.store_model.specs.Places.{claimed_by, IsMapped, UsedPages}
 use Rattle.store_model.specs.Rows.{InJob, OpenClaim, Row, with_row}
 use Rattle.store_model.specs.StoreState.{going_on, JobState, StoreState, waiting}
 use Rattle.store_model.specs.Cases.Insert.{Inserts}
-use Rattle.store_model.specs.RunInvariant.{RunInvariant, RunsWell}
+use Rattle.store_model.specs.RunInvariant.{HaveChains, RunInvariant}
+use Rattle.store_model.proofs.FactsKept.{facts_with, log_stays, metadata_replaced, MetadataKept}
 use Rattle.store_model.proofs.Guarding.{none_frozen_by, none_guarded}
 use Rattle.store_model.proofs.InsertedBlob.{inserted_mapped, mapped_still, mapped_then}
 use Rattle.store_model.proofs.InsertedClusters.{differ_inserted, drawn_inserted, used_inserted}
-use Rattle.store_model.proofs.JobKept.{held_is, held_low, no_other}
+use Rattle.store_model.proofs.JobKept.{no_other}
 use Rattle.store_model.proofs.InsertShown as before
 use Rattle.store_model.proofs.Known.{Known}
 use Rattle.std.specs.Prelude.{◌/◌}
 use Rattle.super_block.specs.Numbers.{cluster_pages_of}
-use Rattle.store_model.proofs.LeftToDo.{
-  no_place,
-  among_left,
-  among_taken,
-  distinct_left,
-  goes_on_as,
-  held_after,
-  none_claimed_after,
-}
+use Rattle.store_model.proofs.LeftToDo.{no_place, goes_on_as, held_after, none_claimed_after}
 use Rattle.store_model.proofs.OneReplacement.{base_resolved}
 use Rattle.store_model.proofs.Phases.{puts_none}
-use Rattle.store_model.proofs.RowsKept.{row_here, row_other, way_kept}
-use Rattle.store_model.proofs.Sets.{AllBelow, among_either}
+use Rattle.store_model.proofs.RowsKept.{row_here, row_same}
 use Rattle.store_model.proofs.SameBlobs.{had_blob, had_none, same_generations}
 use Rattle.store_model.proofs.Shaped.{MayBe, shaped_with}
 use Rattle.store_model.proofs.Resolved.{unmarked_resolved}
 use Rattle.store_model.proofs.StateKept.{runs_here}
-use Rattle.store_model.proofs.UsedCommitted.{chains_committed, old_distinct, used_committed}
-use Rattle.store_model.proofs.WithEntry.{given_all, given_elsewhere, given_here}
+use Rattle.store_model.proofs.UsedCommitted.{used_committed}
+use Rattle.store_model.proofs.WithEntry.{given_elsewhere, given_here}
 
 module _ (known : Known) where
   open known use {s, placed, first, script, p, facts}
@@ -80,11 +70,7 @@ module _ (known : Known) where
       device = t.device;
     }
 
-    well : RunsWell first p
-    well = before.well known told q t
-
-    stood : JobStands p j
-    stood = before.stood known told q t
+    open before.replacement known told q t use {well, stood, lays, can, differ, used, left, chains}
 
     inserts : InsertStands p j row
     inserts = before.inserts known told q t
@@ -101,12 +87,6 @@ module _ (known : Known) where
     abbrev old : Meta
     old = before.old known told q t
 
-    lays : Lays p.super p.base p.chains (gained_by p.rows j) j.written (Replaces r None ∷ rest)
-    lays = before.lays known told q t
-
-    abbrev can : CanReplace p.super p.base p.chains (gained_by p.rows j) j.written r
-    can = before.can known told q t
-
     there : p.base claim.head ≡ Some old
     there = before.there known told q t
 
@@ -118,9 +98,6 @@ module _ (known : Known) where
 
     base_all : now.base ≡ with_entry p.base claim.head (with_slot old claim.slot claim.cluster)
     base_all = before.base_all known told q t
-
-    new_stored : IsStored p.super r.head t.new
-    new_stored = before.new_stored known told q t
 
     now_unmarked : HasNoMarks now.base
     now_unmarked = before.now_unmarked known told q t
@@ -144,30 +121,6 @@ module _ (known : Known) where
     live h m is =
         let was = had_blob (resolved p.base) (resolved now.base) had_resolved h m is in well.live h was.0 was.1
 
-    -- ---- places
-
-    abbrev taken : List ℕ
-    taken = taken_by r
-
-    abbrev later : List ℕ
-    later = taken_in rest
-
-    held : held_by p.job ≡ taken ++ later
-    held = held_is known j t.running.is (Replaces r None) rest t.running.next
-
-    differ : AreDistinct (taken ++ later)
-    differ = subst AreDistinct (ap held_in t.running.next) stood.distinct
-
-    used : UsedPages p.super.md_len p.pages p.chains (taken ++ later)
-    used = subst (UsedPages p.super.md_len p.pages p.chains) held well.pages
-
-    all_low : AllBelow p.super.md_len (r.head ∷ r.fresh)
-    all_low x among = elim (among_either x r.head r.fresh among) [
-      | inl e ↦ subst (λ n. n < p.super.md_len) (sym e) new_stored.low
-      | inr f ↦ subst (λ (y : Super). x < y.md_len) (sym facts.super)
-          (held_low known well (taken ++ later) held x (among_left x taken later (among_taken r x f)))
-    ]
-
     -- ---- the row and the job
 
     here : now.rows row ≡ next
@@ -185,8 +138,7 @@ module _ (known : Known) where
           lays = subst (λ l. Lays p.super now.base now.chains l [] rest) (sym gained)
               (subst (λ (m : Metas). Lays p.super m now.chains [] [] rest) base_is
               (subst (λ (h : Chains). Lays p.super (replaced p.base r) h [] [] rest) chains_are lays.2));
-          distinct = subst AreDistinct (sym lays.1)
-              (old_distinct p.super p.base p.chains well.chains p.pages r later can.chain can.unerased used differ);
+          distinct = left;
           served = λ c bad waits. absurd (let both = sym serves ∙ bad in cc both);
           keeps = λ none other. absurd (other row serves);
           settles = λ other. subst HasNoMarks (ap (behind p.base) t.running.next ∙ ap (λ (m : Metas). behind m rest)
@@ -245,24 +197,18 @@ module _ (known : Known) where
         let filled : IsMapped now.base claim.cluster = subst (λ (b : Metas). IsMapped b claim.cluster) (sym base_all)
         (inserted_mapped old claim.slot claim.cluster put.within put.wanted.empty p.base claim.head there) in
         let done_so : RunInvariant s first script now =
-        record {
-          super = facts.super;
-          stored = given_all p.base r.head t.new (IsStored s) facts.stored
-              (subst (λ (y : Super). IsStored y r.head t.new) facts.super new_stored);
-          named = subst (λ (m : Metas). AreNamed (resolved m)) base_is can.named;
-          few = subst (λ (m : Metas). slots_together s.md_len m ≤ 2 ^ 24) base_is
-              (subst (λ (y : Super). slots_together y.md_len (replaced p.base r) ≤ 2 ^ 24) facts.super can.few);
-          lawful = subst (λ (m : Metas). IsLawful s.md_len (resolved m)) base_is
-              (subst (λ (y : Super). IsLawful y.md_len (resolved (replaced p.base r))) facts.super can.lawful);
-          legal = facts.legal;
+        facts_with known now refl (subst (MetadataKept known) base_is
+        (metadata_replaced known (gained_by p.rows j) j.written r can)) (record {
+          logs = log_stays known now refl refl refl (row_same p.rows row next (λ x. x.left) refl)
+              (omega (arith, clock));
           well = λ on. record {
-            chains =
-                chains_committed p.super p.base p.chains well.chains p.pages r later can.chain can.unerased used t.new
-                (distinct_left taken later differ) all_low;
+            chains = subst (HaveChains p.super now.base) chains_are
+                (subst (λ (m : Metas). HaveChains p.super m (rechained p.chains r)) base_is chains);
             live = live;
             no_live = λ h none. well.no_live h (had_none (resolved p.base) (resolved now.base) had_resolved h none);
             pages = subst (UsedPages p.super.md_len p.pages now.chains) (sym (held_after j [] rest ∙ lays.1))
-                (used_committed p.super p.base p.chains well.chains p.pages r later can.chain can.unerased used differ);
+                (used_committed p.super p.base p.chains well.chains p.pages r (taken_in rest) can.chain can.unerased
+                used differ);
             clusters = used_inserted p row next claim put.held refl next_job none_before none_claimed well.clusters
                 well.claims now.base then_was still filled;
             claims = differ_inserted p row next claim put.held refl next_job none_before none_claimed well.clusters
@@ -274,22 +220,15 @@ module _ (known : Known) where
             job = stands_next;
             replayed = before.shows known told q t ∙ well.replayed;
           };
-          way = way_kept script p facts.way now refl (λ c. elim (cases_eq c row) [
-            | inl e ↦ ap (λ (x : Row). x.left) (row_here p.rows row next c e) ∙ ap (λ n. (p.rows n).left) (sym e)
-            | inr ne ↦ ap (λ (x : Row). x.left) (row_other p.rows row next c ne)
-          ]);
           shaped = shaped_with p facts.shaped now row next refl
               (no_other known j t.running.is row (ap (λ x. waiting x j.todo) serves) now) may
               (λ k c is for_command waits.
               let g = goes_on_as j [] rest k is in
               absurd (let both = sym serves ∙ ap (λ (i : JobState). i.serves) (sym g.is) ∙ for_command in cc both));
           guarded = none_guarded now (none_frozen_by p facts.guarded j t.running.is inserts.thaws);
-          counted = facts.counted;
-          past = All-weaker (λ n. n ≤ p.device.clock) (λ n. n ≤ t.device.clock) (λ n le. omega (arith, le, clock))
-              p.marks facts.past;
           halted = λ n halts. absurd (runs_here known n t.running.runs halts);
           unfinished = λ k is.
               let g = goes_on_as j [] rest k is in
               subst (λ (i : JobState). i.todo ≢ []) (sym g.is) g.some;
-        } in
+        }) in
         subst (RunInvariant s first script) (sym t.next) done_so

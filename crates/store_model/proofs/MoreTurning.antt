@@ -1,47 +1,38 @@
 -- The turn replaces_more keeps what every state has.
-use Rattle.std.proofs.Common.{◌≡◌, ◌/◌, ◌+◌, ◌<◌, ◌≤◌, ◌^◌, ◌++◌, ℕ, Bool, List, [], ◌∷◌, Option, None, Some, true}
+use Rattle.std.proofs.Common.{◌≡◌, ◌/◌, ◌++◌, ℕ, Bool, [], ◌∷◌, Option, None, Some, true}
 use Rattle.std.proofs.Common.{false, refl, sym, ap, ◌∙◌, subst, inl, inr, arith}
 use Rattle.std.proofs.lemmas.Bool.{cases_Bool}
-use Rattle.std.proofs.lemmas.List.Elements.{All-weaker}
-use Rattle.super_block.specs.declared.page.Super.{Super}
 use Rattle.super_block.specs.Numbers.{cluster_pages_of}
 use Rattle.blob_meta.specs.Repairs.{HasNoMarks}
-use Rattle.blob_meta.specs.Resolving.{IsLawful, resolved, slots_together}
 use Rattle.store_model.specs.Cases.ReplaceMore.{ReplacesMore}
 use Rattle.store_model.specs.Copying.{AreCopied, IsUpToDate}
 use Rattle.store_model.specs.Guarding.{frozen_behind}
-use Rattle.store_model.specs.Jobs.{CanReplace, Does, gained_by, inserted_by, IsUnseen, JobStands, Keeps, Lays}
-use Rattle.store_model.specs.Jobs.{MovesClusters, ReadsZeros, shown_of}
+use Rattle.store_model.specs.Jobs.{Does, gained_by, inserted_by, IsUnseen, JobStands, Keeps, Lays}
+use Rattle.store_model.specs.Jobs.{MovesClusters, ReadsZeros}
 use Rattle.store_model.specs.Maps.{Metas}
-use Rattle.store_model.specs.Phases.{behind, has_commit, held_in, OnlyMend, page_in, Replaces, Replacing, taken_by}
-use Rattle.store_model.specs.Phases.{taken_in}
-use Rattle.store_model.specs.Places.{AreDistinct, claimed_by, held_by, UsedPages}
+use Rattle.store_model.specs.Phases.{behind, has_commit, OnlyMend, page_in, Replaces, Replacing}
+use Rattle.store_model.specs.Places.{claimed_by, UsedPages}
 use Rattle.store_model.specs.Rows.{OpenClaim}
-use Rattle.store_model.specs.RunInvariant.{RunInvariant, RunsWell}
+use Rattle.store_model.specs.RunInvariant.{RunInvariant}
 use Rattle.store_model.specs.Shown.{fixed_of, shown_by}
-use Rattle.store_model.specs.Steady.{IsStored}
 use Rattle.store_model.specs.StoreState.{ForCommand, ForInsert, ForRepair, going_on, JobState, Service, shown}
 use Rattle.store_model.specs.StoreState.{StoreState}
-use Rattle.store_model.specs.Turning.{read_after_write}
 use Rattle.store_model.specs.WithReplaced.{made_by, with_replaced}
 use Rattle.store_model.proofs.CopiesCommitted.{copied_unseen}
 use Rattle.store_model.proofs.ClustersMoved.{clusters_moved, differ_committed}
+use Rattle.store_model.proofs.AtHead.{at_head}
+use Rattle.store_model.proofs.FactsKept.{facts_with, log_stays, metadata_replaced}
 use Rattle.store_model.proofs.GoesOn.{served_still, serves_still, unfinished_still}
 use Rattle.store_model.proofs.Guarding.{claims_drawn_still, guarded_behind}
-use Rattle.store_model.proofs.JobKept.{copied_put, held_is, held_low}
+use Rattle.store_model.proofs.JobKept.{copied_put, written_same}
 use Rattle.store_model.proofs.Known.{Known}
-use Rattle.store_model.proofs.LeftToDo.{among_left, among_taken, goes_on_as, held_after, no_place, none_claimed_after}
+use Rattle.store_model.proofs.LeftToDo.{goes_on_as, held_after, no_place, none_claimed_after}
 use Rattle.store_model.proofs.Moved.{inserted_none}
 use Rattle.store_model.proofs.Phases.{does_anywhere, mends_no_commit}
-use Rattle.store_model.proofs.ReplacedBlob.{chains_replaced, generation_before, generations_replaced, low_replaced}
-use Rattle.store_model.proofs.ReplacedBlob.{made_numbered, made_there, pages_replaced, there_before}
-use Rattle.store_model.proofs.RowsKept.{way_kept}
-use Rattle.store_model.proofs.Sets.{AllBelow, among_either}
+use Rattle.store_model.proofs.ReplacedBlob.{generation_before, generations_replaced}
+use Rattle.store_model.proofs.ReplacedBlob.{made_numbered, made_there, there_before}
 use Rattle.store_model.proofs.Shaped.{shaped_same}
-use Rattle.store_model.proofs.Shows.{shown_written}
 use Rattle.store_model.proofs.StateKept.{runs_here}
-use Rattle.store_model.proofs.UsedCommitted.{old_distinct}
-use Rattle.store_model.proofs.WithEntry.{option_all}
 
 module _ (known : Known) where
   open known use {s, placed, first, script, p, facts}
@@ -66,17 +57,7 @@ module _ (known : Known) where
       device = t.device;
     }
 
-    well : RunsWell first p
-    well = facts.well t.running.runs
-
-    stood : JobStands p j
-    stood = well.job j t.running.is
-
-    lays : Lays p.super p.base p.chains (gained_by p.rows j) j.written (Replaces r None ∷ t.running.rest)
-    lays = subst (Lays p.super p.base p.chains (gained_by p.rows j) j.written) t.running.next stood.lays
-
-    can : CanReplace p.super p.base p.chains (gained_by p.rows j) j.written r
-    can = lays.0
+    open at_head known r None t.running use {well, stood, lays, can, under, left, chains, pages}
 
     -- the commit is still to come, or none is
     same : has_commit j.todo ≡ has_commit t.running.rest
@@ -104,34 +85,6 @@ module _ (known : Known) where
         by (ForInsert c) is = absurd (t.no_insert c is)
         by ForRepair is = (keeps_here (mends_no_commit j.todo (stood.mends is))).0
 
-    -- ---- places
-
-    abbrev taken : List ℕ
-    taken = taken_by r
-
-    abbrev later : List ℕ
-    later = taken_in t.running.rest
-
-    held : held_by p.job ≡ taken ++ later
-    held = held_is known j t.running.is (Replaces r None) t.running.rest t.running.next
-
-    differ : AreDistinct (taken ++ later)
-    differ = subst AreDistinct (ap held_in t.running.next) stood.distinct
-
-    used : UsedPages p.super.md_len p.pages p.chains (taken ++ later)
-    used = subst (UsedPages p.super.md_len p.pages p.chains) held well.pages
-
-    low : r.head < p.super.md_len
-    low = low_replaced p.super p.base p.chains well.chains p.pages r later can.chain can.unerased can.gone used
-        (λ m is. (can.stored m is).low)
-
-    all_low : AllBelow p.super.md_len (r.head ∷ r.fresh)
-    all_low x among = elim (among_either x r.head r.fresh among) [
-      | inl e ↦ subst (λ n. n < p.super.md_len) (sym e) low
-      | inr f ↦ subst (λ (y : Super). x < y.md_len) (sym facts.super)
-          (held_low known well (taken ++ later) held x (among_left x taken later (among_taken r x f)))
-    ]
-
     -- no claim is up to date that wasn't
     no_more : (row : ℕ) (claim : OpenClaim) → (p.rows row).claim ≡ Some claim → IsUpToDate now claim
         → IsUpToDate p claim
@@ -140,18 +93,11 @@ module _ (known : Known) where
 
     -- ---- what is shown
 
-    under : r.head < s.md_len
-    under = subst (λ (y : Super). r.head < y.md_len) facts.super low
-
     shows : shown now ≡ shown p
     shows =
-        let at : t.device.reads
-        ≡ read_after_write told p.device.reads (s.md_start + r.head) (page_in r.planned r.head) =
-        t.moves.reads ∙ ap (λ (y : Super).
-        read_after_write told p.device.reads (y.md_start + r.head) (page_in r.planned r.head)) facts.super in
-        let read : shown_of p.super p.base p.live t.device.reads ≡ shown p = shown_written told s p t.device r.head
-        (page_in r.planned r.head) facts.super facts.stored facts.lawful placed under at in
-        ap (λ (m : Metas). shown_by (fixed_of p.super) t.device.reads m p.live) unseen ∙ read
+        ap (λ (m : Metas). shown_by (fixed_of p.super) t.device.reads m p.live) unseen
+        ∙ written_same known told (record p { device = t.device }) r.head (page_in r.planned r.head) refl under
+        t.moves.reads
 
     copied_new : AreCopied now
     copied_new =
@@ -182,8 +128,7 @@ module _ (known : Known) where
         record {
           lays = subst (λ l. Lays p.super now.base now.chains l [] t.running.rest)
               (sym (ap (λ l. l ++ []) none_inserted)) lays.2;
-          distinct = subst AreDistinct (sym lays.1)
-              (old_distinct p.super p.base p.chains well.chains p.pages r later can.chain can.unerased used differ);
+          distinct = left;
           served = λ c serves waits.
               let y = stood.served c serves (same ∙ waits) in
               record {
@@ -205,23 +150,14 @@ module _ (known : Known) where
     keeps =
         let clock = t.moves.clock in
         let done_so : RunInvariant s first script now =
-        record {
-          super = facts.super;
-          stored = option_all p.base r.head r.new (IsStored s) facts.stored
-              (λ m is. subst (λ (y : Super). IsStored y r.head m) facts.super (can.stored m is));
-          named = can.named;
-          few = subst (λ (y : Super). slots_together y.md_len now.base ≤ 2 ^ 24) facts.super can.few;
-          lawful = subst (λ (y : Super). IsLawful y.md_len (resolved now.base)) facts.super can.lawful;
-          legal = facts.legal;
+        facts_with known now refl (metadata_replaced known (gained_by p.rows j) j.written r can) (record {
+          logs = log_stays known now refl refl refl (λ c. refl) (omega (arith, clock));
           well = λ on. record {
-            chains = chains_replaced p.super p.base p.chains well.chains p.pages r later can.chain can.unerased can.gone
-                used differ all_low;
+            chains = chains;
             live = λ h m is. well.live h m (ap (λ (x : Metas). x h) (sym unseen) ∙ is);
             no_live = λ h none. well.no_live h (ap (λ (x : Metas). x h) (sym unseen) ∙ none);
-            pages = subst (UsedPages p.super.md_len now.pages now.chains)
-                (sym (held_after other [] t.running.rest ∙ lays.1))
-                (pages_replaced p.super p.base p.chains well.chains p.pages r later can.chain can.unerased can.gone used
-                differ);
+            pages = subst (UsedPages p.super.md_len now.pages now.chains) (sym (held_after other [] t.running.rest))
+                pages;
             clusters = clusters_moved p.super p.clusters p.base now.base r.freed p.rows p.rows p.job next_job
                 (λ c. refl) none_claimed moves well.claims well.clusters;
             claims = differ_committed p.rows p.rows p.job next_job (λ c. refl) none_claimed well.claims;
@@ -234,7 +170,6 @@ module _ (known : Known) where
             job = stands_next;
             replayed = shows ∙ well.replayed;
           };
-          way = way_kept script p facts.way now refl (λ c. refl);
           shaped = shaped_same p now facts.shaped refl
               (serves_still p j t.running.is (Replaces r None) t.running.rest t.running.next refl t.no_insert other refl
               now refl facts.shaped)
@@ -242,11 +177,8 @@ module _ (known : Known) where
               now refl facts.shaped);
           guarded = guarded_behind p now facts.guarded j other t.running.is refl t.running.runs t.running.rest refl
               refl;
-          counted = facts.counted;
-          past = All-weaker (λ n. n ≤ p.device.clock) (λ n. n ≤ t.device.clock) (λ n le. omega (arith, le, clock))
-              p.marks facts.past;
           halted = λ n halts. absurd (runs_here known n t.running.runs halts);
           unfinished = unfinished_still p j t.running.is (Replaces r None) t.running.rest t.running.next refl
               t.no_insert other refl now refl;
-        } in
+        }) in
         subst (RunInvariant s first script) (sym t.next) done_so

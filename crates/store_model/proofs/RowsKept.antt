@@ -20,6 +20,14 @@ module _ (rows : Rows) (channel : ℕ) (row : Row) where
   pub row_other : (c : ℕ) → c ≢ channel → with_row rows channel row c ≡ rows c
   row_other c ne = rw (ne_eqb c channel ne) refl
 
+  -- what the row has as the one before it had
+  pub row_same : {A : Type 0} → (of : Row → A) → of row ≡ of (rows channel) → (c : ℕ)
+      → of (with_row rows channel row c) ≡ of (rows c)
+  row_same of same c = elim (cases_eq c channel) [
+    | inl e ↦ ap of (row_here c e) ∙ same ∙ ap (λ k. of (rows k)) (sym e)
+    | inr ne ↦ ap of (row_other c ne)
+  ]
+
 pub entries_more : (channel : ℕ) (log : List Entry) (e : Entry) → e.channel ≡ channel
     → entries_of channel (log ++ e ∷ []) ≡ entries_of channel log ++ e ∷ []
 entries_more channel log e is =

@@ -164,6 +164,18 @@ served_still p q shaped same channel row rows free job c is serves waits =
       is = ap (λ (r : Rows). r c) rows ∙ row_other p.rows channel row c apart ∙ x.is;
     }
 
+-- the job stays, and another row changes
+pub shaped_row : (p q : StoreState) → IsShaped p → q.job ≡ p.job → (channel : ℕ) (row : Row)
+    → q.rows ≡ with_row p.rows channel row → MayBe q channel row → ((p.rows channel).stage ≡ InJob → ⊥) → IsShaped q
+shaped_row p q shaped job channel row rows may free = shaped_with p shaped q channel row rows
+    (λ c ne in_job. serves_same p q job c (serves p shaped c in_job)) may
+    (served_still p q shaped job channel row rows free)
+
+-- the job stays, and all rows
+pub shaped_still : (p q : StoreState) → IsShaped p → q.job ≡ p.job → q.rows ≡ p.rows → IsShaped q
+shaped_still p q shaped job rows = shaped_same p q shaped rows
+    (λ c in_job. serves_same p q job c (serves p shaped c in_job)) (λ j c is. shaped.served j c (sym job ∙ is))
+
 -- ---- rows of one stage
 
 pub idle_may : (p : StoreState) (channel : ℕ) (left : List Command)

@@ -5,8 +5,9 @@ use Rattle.store_model.specs.Phases.{Phase}
 use Rattle.store_model.specs.RunInvariant.{RunInvariant}
 use Rattle.store_model.specs.StoreState.{StoreState, waiting}
 use Rattle.store_model.specs.Turning.{FailsToReplace, Runs, stopped_now}
+use Rattle.store_model.proofs.FactsKept.{facts_kept, log_stays}
 use Rattle.store_model.proofs.Guarding.{none_guarded}
-use Rattle.store_model.proofs.JobKept.{none_here, silent}
+use Rattle.store_model.proofs.JobKept.{none_here}
 use Rattle.store_model.proofs.Known.{Known}
 use Rattle.store_model.proofs.Shaped.{shaped_same}
 
@@ -20,10 +21,13 @@ module _ (known : Known) {phase : Phase} (running : Runs known.p phase)
       → RunInvariant s first script q
   silent_stops q next =
       let now : StoreState = record (stopped_now p) { job = None; device = device } in
-      let kept : RunInvariant s first script now =
-      silent known now refl refl refl refl refl refl fails.clock (λ runs. absurd (cc runs))
-      (shaped_same p now facts.shaped refl (none_here known running.job running.is none now)
-      (λ job c bad serves waits. absurd (cc bad)))
-      (none_guarded now (λ head. refl)) (λ at is. let e : length p.log ≡ at = cc is in omega (arith, e))
-      (λ job is. absurd (cc is)) in
-      subst (RunInvariant s first script) (sym next) kept
+      subst (RunInvariant s first script) (sym next)
+      (facts_kept known now refl refl (record {
+        logs = log_stays known now refl refl refl (λ c. refl) fails.clock;
+        well = λ runs. absurd (cc runs);
+        shaped = shaped_same p now facts.shaped refl (none_here known running.job running.is none now)
+            (λ job c bad serves waits. absurd (cc bad));
+        guarded = none_guarded now (λ head. refl);
+        halted = λ at is. let e : length p.log ≡ at = cc is in omega (arith, e);
+        unfinished = λ job is. absurd (cc is);
+      }))

@@ -1,8 +1,8 @@
 -- The turn begins_insert.
-use Rattle.std.proofs.Common.{◌≡◌, ◌≤◌, ◌^◌, ◌++◌, List, [], ◌∷◌, Option, Some, None, true, false, refl, sym, ap}
+use Rattle.std.proofs.Common.{◌≡◌, ◌≤◌, ◌^◌, ◌++◌, List, [], ◌∷◌, Some, None, true, false, refl, sym, ap}
 use Rattle.std.proofs.Common.{◌∙◌, subst, inl, inr, arith}
 use Rattle.std.specs.Option.{option_map_or}
-use Rattle.std.proofs.lemmas.Bool.{cases_Bool, cases_eq}
+use Rattle.std.proofs.lemmas.Bool.{cases_Bool}
 use Rattle.std.specs.Prelude.{◌/◌}
 use Rattle.super_block.specs.Numbers.{cluster_pages_of}
 use Rattle.blob_meta.specs.declared.meta.Meta.{Meta}
@@ -14,7 +14,7 @@ use Rattle.store_model.specs.Jobs.{CanReplace, gained_by, InsertStands, IsPlanne
 use Rattle.store_model.specs.Steady.{AreNamed, AreSteady, IsSteady, IsStored}
 use Rattle.store_model.specs.Maps.{Metas, with_entry}
 use Rattle.store_model.specs.Phases.{phases_of, erasing, page_in, Phase, replaced, Replaces, Replacing, taken_by}
-use Rattle.store_model.specs.Places.{all_set, AreDistinct, claimed_by, HasClaim, held_by, UsedPages}
+use Rattle.store_model.specs.Places.{all_set, AreDistinct, claimed_by, HasClaim}
 use Rattle.store_model.specs.Regions.{region_of}
 use Rattle.store_model.specs.Rows.{InJob, OpenClaim, Row, Stage, with_row}
 use Rattle.store_model.specs.Scans.{MetaAt}
@@ -22,9 +22,9 @@ use Rattle.store_model.specs.StoreState.{ForInsert, JobState, StoreState}
 use Rattle.store_model.specs.Cases.BeginInsert as case
 use Rattle.store_model.specs.Cases.BeginInsert.{BeginsInsert}
 use Rattle.store_model.specs.RunInvariant.{RunInvariant, RunsWell}
-use Rattle.store_model.proofs.Claims.{differ_still, used_still, with_row_same}
+use Rattle.store_model.proofs.Claims.{with_row_same}
 use Rattle.store_model.proofs.Copies.{copied_same, row_no_more}
-use Rattle.store_model.proofs.Guarding.{claims_drawn_still}
+use Rattle.store_model.proofs.FactsKept.{claims_kept}
 use Rattle.store_model.proofs.Heads.{replaced_is}
 use Rattle.shown_volumes.proofs.Inside.{IsInside}
 use Rattle.store_model.proofs.InsertedBlob.{inserted_steady, lawful_inserted, slots_inserted}
@@ -35,12 +35,12 @@ use Rattle.store_model.proofs.OneReplacement.{all_steady, base_lawful, base_stea
 use Rattle.store_model.proofs.Over.{Effect, nothing, stays, TurnLaw}
 use Rattle.store_model.proofs.Phases.{old_pages, puts_behind}
 use Rattle.store_model.proofs.PhasesOfOne.{held_one, lays_one, leads_one, some_phase}
-use Rattle.store_model.proofs.RowsKept.{row_here, row_other}
+use Rattle.store_model.proofs.RowsKept.{row_here, row_same}
 use Rattle.store_model.proofs.Sets.{are_distinct}
 use Rattle.store_model.proofs.Shaped.{holding_may, none_without, Serves, shaped_with}
-use Rattle.store_model.proofs.Shapes.{Idles, silent, untouched_images}
+use Rattle.store_model.proofs.Shapes.{Idles, idles_begun, untouched_images}
 use Rattle.store_model.proofs.Resolved.{steady_resolved}
-use Rattle.store_model.proofs.Used.{used_begun, within}
+use Rattle.store_model.proofs.Used.{within}
 
 module _ (known : Known) where
   open known use {s, placed, first, script, p, facts}
@@ -205,28 +205,15 @@ module _ (known : Known) where
     pub keeps : RunInvariant s first script q
     keeps =
         let serves_it : Serves now row = record { job = job; is = refl; waits = refl } in
-        let used : UsedPages p.super.md_len p.pages p.chains [] =
-        subst (UsedPages p.super.md_len p.pages p.chains) (ap held_by t.no_job) well.pages in
-        let claims_same = with_row_same p.rows row next (sym held_it) in
-        let claimed_same : claimed_by now.job ≡ claimed_by p.job = sym (ap claimed_by t.no_job) in
         subst (RunInvariant s first script) (sym t.next)
-        (begun_keeps known t.runs t.no_job now.rows job now.pages p.clusters
-        (subst (UsedPages p.super.md_len now.pages p.chains) (sym (held_one r None))
-        (used_begun p.super.md_len p.pages p.chains (taken_by r) used planned.least))
-        (used_still p.rows now.rows p.job now.job claims_same claimed_same p.super p.clusters p.base well.clusters)
-        (differ_still p.rows now.rows p.job now.job claims_same claimed_same well.claims)
-        (claims_drawn_still p.rows now.rows p.drawn p.drawn claims_same (omega arith) well.claims_drawn)
-        (copied_same p now well.copied refl refl refl
+        (begun_keeps known t.runs t.no_job now.rows job (taken_by r) p.clusters (held_one r None) planned.least
+        (claims_kept first p now well refl refl refl refl (with_row_same p.rows row next (sym held_it))
+        (sym (ap claimed_by t.no_job)) (copied_same p now well.copied refl refl refl
         (row_no_more (cluster_pages_of p.super) p.rows row next (λ other page holds has. record {
           held = held_it ∙ holds;
           copied = subst (λ (x : Stage). HasCopied (cluster_pages_of p.super) x page)
               (sym (ap (λ (x : Row). x.stage) t.posted.is)) has;
-        })) refl) stands
-        (λ c. elim (cases_eq c row) [
-          | inl e ↦ ap (λ (x : Row). x.left) (row_here p.rows row next c e)
-              ∙ sym (ap (λ (x : Row). x.left) t.posted.is) ∙ ap (λ k. (p.rows k).left) (sym e)
-          | inr ne ↦ ap (λ (x : Row). x.left) (row_other p.rows row next c ne)
-        ])
+        })) refl)) stands (row_same p.rows row next (λ x. x.left) (sym (ap (λ (x : Row). x.left) t.posted.is)))
         (shaped_with p facts.shaped now row next refl
         (λ c ne in_job. absurd (none_without p facts.shaped t.no_job c in_job))
         (holding_may now row left InJob claim tt (λ serial bad. absurd (cc bad)) (λ _. serves_it))
@@ -239,12 +226,7 @@ pub law : TurnLaw case.kind
 law = record {
   keeps = λ _ told known q t. keeps known q t;
   effect = λ told p q t. subst (Effect p) (sym t.next) (record { goes = stays refl refl; logs = nothing refl refl });
-  images = λ d x t does. untouched_images d x does (subst (Idles x.p) (sym t.next) (record {
-    base = refl;
-    chains = refl;
-    stopped = refl;
-    job = inr (λ job is. ap (λ (o : Option JobState). option_map_or (λ j. j.written) o []) (sym is));
-    log = λ _. silent refl;
-  }));
+  images = λ d x t does. untouched_images d x does (subst (Idles x.p) (sym t.next)
+      (idles_begun x.p _ refl refl refl _ refl refl refl));
   job = λ of. absurd of;
 }

@@ -1,16 +1,15 @@
 -- The turn begins_repair.
-use Rattle.std.proofs.Common.{◌≡◌, ◌/◌, List, [], ◌∷◌, Option, Some, None, true, refl, sym, ap, ◌∙◌, subst, inr}
-use Rattle.std.specs.Option.{option_map_or}
+use Rattle.std.proofs.Common.{◌≡◌, ◌/◌, List, [], ◌∷◌, Some, None, true, refl, sym, ap, ◌∙◌, subst}
 use Rattle.super_block.specs.Numbers.{cluster_pages_of}
 use Rattle.store_model.specs.Cases.BeginRepair as case
 use Rattle.store_model.specs.Cases.BeginRepair.{BeginsRepair}
 use Rattle.store_model.specs.Jobs.{JobStands}
 use Rattle.store_model.specs.Phases.{erasing, Phase, phases_of, replaced, Replaces, Replacing, taken_by}
-use Rattle.store_model.specs.Places.{all_set, AreDistinct, claimed_by, held_by, UsedPages}
+use Rattle.store_model.specs.Places.{all_set, AreDistinct, claimed_by}
 use Rattle.store_model.specs.RunInvariant.{RunInvariant, RunsWell}
 use Rattle.store_model.specs.StoreState.{ForRepair, JobState, StoreState}
-use Rattle.store_model.proofs.Claims.{differ_still, used_still}
 use Rattle.store_model.proofs.Copies.{copied_same}
+use Rattle.store_model.proofs.FactsKept.{claims_kept}
 use Rattle.store_model.proofs.JobBegun.{begun_keeps}
 use Rattle.store_model.proofs.Known.{Known}
 use Rattle.store_model.proofs.LawsBelow.{RepairLaws}
@@ -21,8 +20,7 @@ use Rattle.store_model.proofs.PhasesOfOne.{held_one, lays_one, some_phase}
 use Rattle.store_model.proofs.RepairBegun.{can, new_unmarked, planned, unseen}
 use Rattle.store_model.proofs.Sets.{are_distinct}
 use Rattle.store_model.proofs.Shaped.{none_without, shaped_same}
-use Rattle.store_model.proofs.Shapes.{Idles, silent, untouched_images}
-use Rattle.store_model.proofs.Used.{used_begun}
+use Rattle.store_model.proofs.Shapes.{Idles, idles_begun, untouched_images}
 
 module _ (laws : RepairLaws) (known : Known) where
   open known use {s, placed, first, script, p, facts}
@@ -64,16 +62,11 @@ module _ (laws : RepairLaws) (known : Known) where
 
     pub keeps : RunInvariant s first script q
     keeps =
-        let used : UsedPages p.super.md_len p.pages p.chains [] =
-        subst (UsedPages p.super.md_len p.pages p.chains) (ap held_by t.no_job) well.pages in
-        let claimed_same : claimed_by now.job ≡ claimed_by p.job = sym (ap claimed_by t.no_job) in
         subst (RunInvariant s first script) (sym t.next)
-        (begun_keeps known t.runs t.no_job p.rows job now.pages p.clusters
-        (subst (UsedPages p.super.md_len now.pages p.chains) (sym (held_one r None))
-        (used_begun p.super.md_len p.pages p.chains (taken_by r) used (planned laws known q t).least))
-        (used_still p.rows p.rows p.job now.job (λ c. refl) claimed_same p.super p.clusters p.base well.clusters)
-        (differ_still p.rows p.rows p.job now.job (λ c. refl) claimed_same well.claims) well.claims_drawn
-        (copied_same p now well.copied refl refl refl (λ row claim page x. x) refl) stands (λ c. refl)
+        (begun_keeps known t.runs t.no_job p.rows job (taken_by r) p.clusters (held_one r None)
+        (planned laws known q t).least
+        (claims_kept first p now well refl refl refl refl (λ c. refl) (sym (ap claimed_by t.no_job))
+        (copied_same p now well.copied refl refl refl (λ row claim page x. x) refl)) stands (λ c. refl)
         (shaped_same p now facts.shaped refl (λ c in_job. absurd (none_without p facts.shaped t.no_job c in_job))
         (λ j c is serves _.
         let same : job ≡ j = cc is in
@@ -84,12 +77,7 @@ pub law : TurnLaw case.kind
 law = record {
   keeps = λ below told known q t. keeps below.repairs known q t;
   effect = λ told p q t. subst (Effect p) (sym t.next) (record { goes = stays refl refl; logs = nothing refl refl });
-  images = λ d x t does. untouched_images d x does (subst (Idles x.p) (sym t.next) (record {
-    base = refl;
-    chains = refl;
-    stopped = refl;
-    job = inr (λ job is. ap (λ (o : Option JobState). option_map_or (λ j. j.written) o []) (sym is));
-    log = λ _. silent refl;
-  }));
+  images = λ d x t does. untouched_images d x does (subst (Idles x.p) (sym t.next)
+      (idles_begun x.p _ refl refl refl _ refl refl refl));
   job = λ of. absurd of;
 }

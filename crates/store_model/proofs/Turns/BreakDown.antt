@@ -7,14 +7,14 @@ use Rattle.store_model.specs.StoreState.{JobState, logged, StoreState, turns_lef
 use Rattle.store_model.specs.Cases.BreakDown as case
 use Rattle.store_model.specs.Cases.BreakDown.{BreaksDown, IsUnlogged, WasLogged}
 use Rattle.store_model.specs.RunInvariant.{RunInvariant}
+use Rattle.store_model.proofs.FactsKept.{facts_kept, log_kept, log_stays}
 use Rattle.store_model.proofs.Known.{Known}
 use Rattle.store_model.proofs.Over.{Effect, halt, nothing, stays, TurnLaw}
 use Rattle.store_model.proofs.Progress.{clears, JobLaw, logs_served, no_job}
 use Rattle.store_model.proofs.Shapes.{Idles, untouched_images}
 use Rattle.store_model.proofs.Shaped.{decided_may, shaped_same, shaped_with, waits_for_commit}
 use Rattle.store_model.proofs.JobKept.{no_other, none_here}
-use Rattle.store_model.proofs.StateKept.{log_kept, LogKept, runs_here}
-use Rattle.store_model.proofs.RowsKept.{way_kept}
+use Rattle.store_model.proofs.StateKept.{runs_here}
 use Rattle.store_model.specs.Phases.{Phase}
 use Rattle.store_model.proofs.Guarding.{none_guarded}
 
@@ -30,55 +30,36 @@ module _ (known : Known) (j : JobState) (is : known.p.job ≡ Some j) (at : ℕ)
     keeps_unlogged =
         let base : StoreState = record p { job = None } in
         let now : StoreState = logged base channel command rest (r.Stopped at) p.device in
-        let kept : LogKept known now =
-        log_kept known (Decided Answered) base channel command rest (r.Stopped at) p.device refl refl refl refl
-        (ap (λ (row : Row). row.left) row) (omega arith) tt in
-        let low = facts.halted at stands in
         let done : RunInvariant s first script now =
-        record {
-          super = facts.super;
-          stored = facts.stored;
-          named = facts.named;
-          few = facts.few;
-          lawful = facts.lawful;
-          legal = kept.legal;
+        facts_kept known now refl refl (record {
+          logs = log_kept known (Decided Answered) base channel command rest (r.Stopped at) p.device refl refl refl refl
+              (ap (λ (row : Row). row.left) row) (omega arith) tt;
           well = λ runs. absurd (runs_here known at runs stands);
-          way = kept.way;
           shaped = shaped_with p facts.shaped now channel _ refl
               (no_other known j is channel (waits_for_commit j channel serves t.waits) now)
               (decided_may now channel rest)
               (λ job c bad serves waits. absurd (cc bad));
           guarded = none_guarded now (facts.guarded.stopped at stands);
-          counted = kept.counted;
-          past = kept.past;
           halted = λ n halts.
               let below = facts.halted n halts in
               omega (arith, below, length-append p.log (entry_of p.log channel command (r.Stopped at) ∷ []));
           unfinished = λ job bad. absurd (cc bad);
-        } in
+        }) in
         subst (RunInvariant s first script) (sym t.next) done
 
   keeps_logged : (q : StoreState) → WasLogged p j q → RunInvariant s first script q
   keeps_logged q t =
       let now : StoreState = record p { job = None } in
       let done : RunInvariant s first script now =
-      record {
-        super = facts.super;
-        stored = facts.stored;
-        named = facts.named;
-        few = facts.few;
-        lawful = facts.lawful;
-        legal = facts.legal;
+      facts_kept known now refl refl (record {
+        logs = log_stays known now refl refl refl (λ c. refl) (omega arith);
         well = λ runs. absurd (runs_here known at runs stands);
-        way = way_kept script p facts.way now refl (λ c. refl);
         shaped = shaped_same p now facts.shaped refl (none_here known j is t.waits now)
             (λ job c bad serves waits. absurd (cc bad));
         guarded = none_guarded now (facts.guarded.stopped at stands);
-        counted = facts.counted;
-        past = facts.past;
         halted = facts.halted;
         unfinished = λ job bad. absurd (cc bad);
-      } in
+      }) in
       subst (RunInvariant s first script) (sym t.next) done
 
 -- ---- the job is done

@@ -1,7 +1,6 @@
 -- The turn insert_ends.
 use Rattle.std.proofs.Common.{
   ◌≡◌,
-  ◌≤◌,
   ◌++◌,
   ℕ,
   Bool,
@@ -19,18 +18,15 @@ use Rattle.std.proofs.Common.{
   ◌∙◌,
   arith,
 }
-use Rattle.std.proofs.Common.{inl, inr}
 use Rattle.std.specs.Prelude.{true}
 use Rattle.std.specs.Option.{option_map_or}
-use Rattle.std.proofs.lemmas.Bool.{cases_eq}
-use Rattle.std.proofs.lemmas.List.Elements.{All-weaker}
 use Rattle.super_block.specs.Numbers.{cluster_pages_of}
 use Rattle.volume_model.specs.Volumes.{zero_page}
 use Rattle.md_chain.specs.Chain.{is_among}
 use Rattle.store_model.specs.Copying.{AreCopied}
 use Rattle.store_model.specs.Jobs.{gained_by, inserted_by, InsertStands, JobStands, Lays}
 use Rattle.store_model.specs.Phases as phase
-use Rattle.store_model.specs.Phases.{held_in, Phase, taken_in}
+use Rattle.store_model.specs.Phases.{held_in, taken_in}
 use Rattle.store_model.specs.Places.{all_set, AreDistinct, claimed_by, held_by, UsedPages}
 use Rattle.store_model.specs.Rows.{Decided, OpenClaim, Row, with_row, Won}
 use Rattle.store_model.specs.StoreState.{ForInsert, JobState, shown, StoreState, waiting}
@@ -39,15 +35,16 @@ use Rattle.store_model.specs.Turning.{page_of_place, WritesOnePage}
 use Rattle.store_model.specs.Cases.InsertEnd as case
 use Rattle.store_model.specs.Cases.InsertEnd.{InsertEnds}
 use Rattle.store_model.specs.RunInvariant.{RunInvariant, RunsWell}
-use Rattle.store_model.proofs.Claims.{differ_still, used_still, with_row_same}
+use Rattle.store_model.proofs.Claims.{with_row_same}
 use Rattle.store_model.proofs.Copies.{copied_same, row_unclaimed}
+use Rattle.store_model.proofs.FactsKept.{claims_kept, facts_kept, log_stays, runs_on}
 use Rattle.store_model.proofs.Going.{left_of}
-use Rattle.store_model.proofs.Guarding.{claims_drawn_still, none_frozen_by, none_guarded}
+use Rattle.store_model.proofs.Guarding.{none_frozen_by, none_guarded}
 use Rattle.store_model.proofs.JobKept.{copied_put, held_is, held_low, no_other, written_same}
 use Rattle.store_model.proofs.Known.{Known}
 use Rattle.store_model.proofs.LeftToDo.{among_left}
 use Rattle.store_model.proofs.Over.{Effect, moves, nothing, TurnLaw}
-use Rattle.store_model.proofs.RowsKept.{row_here, row_other, way_kept}
+use Rattle.store_model.proofs.RowsKept.{row_same}
 use Rattle.store_model.proofs.Shaped.{outcome_may, shaped_with}
 use Rattle.store_model.proofs.Shapes.{place_images}
 use Rattle.store_model.proofs.StateKept.{runs_here}
@@ -129,48 +126,27 @@ module _ (known : Known) where
         let freed : UsedPages p.super.md_len now.pages p.chains [] =
         used_freed p.super.md_len p.pages p.chains t.old [] differ
         (subst (UsedPages p.super.md_len p.pages p.chains) held well.pages) in
-        let claims_same = with_row_same p.rows row next (sym unclaimed) in
-        let claimed : claimed_by now.job ≡ claimed_by p.job =
-        sym (ap claimed_by t.running.is ∙ inserts.unclaimed) in
         let done : RunInvariant s first script now =
-        record {
-          super = facts.super;
-          stored = facts.stored;
-          named = facts.named;
-          few = facts.few;
-          lawful = facts.lawful;
-          legal = facts.legal;
-          well = λ on. record {
-            chains = well.chains;
-            live = well.live;
-            no_live = well.no_live;
+        facts_kept known now refl refl (record {
+          logs = log_stays known now refl refl refl (row_same p.rows row next (λ x. x.left) refl)
+              (omega (arith, clock));
+          well = λ on. runs_on first p now well refl (record {
             pages = freed;
-            clusters = used_still p.rows now.rows p.job now.job claims_same claimed p.super p.clusters p.base
-                well.clusters;
-            claims = differ_still p.rows now.rows p.job now.job claims_same claimed well.claims;
-            generations = well.generations;
-            copied = copied_same mid now read refl refl refl
-                (row_unclaimed (cluster_pages_of p.super) p.rows row next refl) refl;
-            claims_drawn =
-                claims_drawn_still p.rows now.rows p.drawn p.drawn claims_same (omega arith) well.claims_drawn;
+            held = claims_kept first p now well refl refl refl refl (with_row_same p.rows row next (sym unclaimed))
+                (sym (ap claimed_by t.running.is ∙ inserts.unclaimed))
+                (copied_same mid now read refl refl refl
+                (row_unclaimed (cluster_pages_of p.super) p.rows row next refl) refl);
             job = λ k is. absurd (cc is);
             replayed = same ∙ well.replayed;
-          };
-          way = way_kept script p facts.way now refl (λ c. elim (cases_eq c row) [
-            | inl e ↦ ap (λ (x : Row). x.left) (row_here p.rows row next c e) ∙ ap (λ n. (p.rows n).left) (sym e)
-            | inr ne ↦ ap (λ (x : Row). x.left) (row_other p.rows row next c ne)
-          ]);
+          });
           shaped = shaped_with p facts.shaped now row next refl
               (no_other known j t.running.is row (ap (λ x. waiting x j.todo) serves) now)
               (outcome_may Won now row (p.rows row).left)
               (λ k c bad is_for waits. absurd (cc bad));
           guarded = none_guarded now (none_frozen_by p facts.guarded j t.running.is inserts.thaws);
-          counted = facts.counted;
-          past = All-weaker (λ n. n ≤ p.device.clock) (λ n. n ≤ t.device.clock) (λ n le. omega (arith, le, clock))
-              p.marks facts.past;
           halted = λ n halts. absurd (runs_here known n t.running.runs halts);
           unfinished = λ k is. absurd (cc is);
-        } in
+        }) in
         subst (RunInvariant s first script) (sym t.next) done
 
 pub law : TurnLaw case.kind
