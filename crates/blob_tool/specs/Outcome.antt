@@ -6,7 +6,6 @@ use Rattle.volume_model.specs.declared.command.Command.{Command}
 use Rattle.job_begins.specs.Repairs.{LacksForRepair}
 use Rattle.md_chain.specs.Reading.{OnlyRead}
 use Rattle.script_lang.specs.Script.{reads, IsFirstBad}
-use Rattle.script_lang.specs.declared.grammar.Grammar.TheVariants.{Served}
 use Rattle.script_lang.specs.declared.fault.LineKind.{LineKind}
 use Rattle.script_lang.specs.declared.schedule.Actor.{Actor}
 use Rattle.running_store.specs.declared.loaded.Loaded.{Loaded}
@@ -37,7 +36,7 @@ module _ {S : Type 0} (s : source.Ghosts S) (script script_now : S) where
   pub record HasBadLine (line : ℕ) (kind : LineKind) : Type 0 where
     pub text : List ℕ
     pub is_text : IsText text
-    pub first : IsFirstBad Served text line kind
+    pub first : IsFirstBad text line kind
     pub no_script : reads text ≡ None
 
   -- it is too long, which is said as line 0

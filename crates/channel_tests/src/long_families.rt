@@ -3,7 +3,7 @@
 use blob_report::render_entry;
 use page_disk::MemDisk;
 use random_plays::{Call, perform, play};
-use script_lang::{Grammar, read_script};
+use script_lang::parse;
 use std::alloc::Global;
 use std::test::Fail;
 use volume_model::{Entry, Volumes};
@@ -24,7 +24,7 @@ fn empty_store(alloc: Global) -> Result<MemDisk, Fail> {
 
 /// What plain volumes answer to the commands of channel 0 of a script, a line each.
 fn answered(alloc: Global, volumes: &mut Volumes, text: &[u8]) -> Result<Vec<u8>, Fail> {
-    let Ok(mut script) = read_script(alloc, Grammar::Served, text) else {
+    let Ok(mut script) = parse(alloc, text) else {
         return Err(Fail::new("the script is outside the grammar"));
     };
     let mut lines = Vec::new(alloc);

@@ -5,7 +5,7 @@ ghost use Rattle.std.specs.Prelude.{◌≡◌};
 use crate::begins::begin_asked;
 use blob_report::render_entry;
 use page_disk::MemDisk;
-use script_lang::{Grammar, read_script};
+use script_lang::parse;
 use std::alloc::Global;
 use std::process::Abort;
 use std::test::Fail;
@@ -44,7 +44,7 @@ impl Session {
         state_stops();
         state_turns();
         stores_are_accepted();
-        let Ok(script) = read_script(alloc, Grammar::Whole, text) else {
+        let Ok(script) = parse(alloc, text) else {
             return Err(Fail::new("the script is outside the grammar"));
         };
         let loaded = match load(alloc, disk) {

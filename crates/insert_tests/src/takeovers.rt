@@ -11,7 +11,7 @@ use channels::run_stepwise;
 use md_queue::{Inbox, ListQueue, Outbox};
 use md_thread::{MdState, Turn};
 use page_disk::{MemDisk, PageDisk};
-use script_lang::{Grammar, Schedule, parse_schedule, read_script};
+use script_lang::{Schedule, parse, parse_schedule};
 use std::alloc::Global;
 use std::process::Abort;
 use std::test::Fail;
@@ -92,7 +92,7 @@ fn log_behind(
     state_stops();
     state_turns();
     stores_are_accepted();
-    let Ok(script) = read_script(alloc, Grammar::Whole, SCRIPT) else {
+    let Ok(script) = parse(alloc, SCRIPT) else {
         return Err(Fail::new("the script is outside the grammar"));
     };
     let loaded = match load(alloc, family(alloc)?) {

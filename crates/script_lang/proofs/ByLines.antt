@@ -1,38 +1,31 @@
 -- A script that is read line by line.
 use Rattle.std.proofs.Common.{◌≡◌, ◌⊎◌, inl, inr, ℕ, ◌+◌, ◌^◌, ◌<◌, ◌≤◌, List, [], ◌∷◌, ◌++◌, map, length, Some, None}
 use Rattle.std.proofs.Common.{Result, Ok, Err, refl, sym, ap, subst, ◌∙◌, arith, append_assoc, length-append}
-use Rattle.std.proofs.Common.{slice_index_or}
-use Rattle.std.specs.Prelude.{cond, replicate, fold}
-use Rattle.std.specs.List.{All}
+use Rattle.std.specs.Prelude.{cond, replicate}
 use Rattle.std.specs.Option.{option_map, option_and_then}
 use Rattle.std.proofs.lemmas.Bool.{cases_lt, le-leb, lt-ltb}
-use Rattle.std.proofs.lemmas.List.Elements.{All-nil, All-push, All-set, All-replicate, All-get_or, All-head, All-tail}
 use Rattle.std.proofs.lemmas.List.Sums.{fold_push, sum_by-append}
-use Rattle.std.proofs.lemmas.List.{map-append, get_or_past}
+use Rattle.std.proofs.lemmas.List.{map-append}
 use Rattle.std.proofs.lemmas.Grind.{common_steps}
 use Rattle.volume_model.specs.declared.command.Command.{Command}
 use Rattle.volume_model.specs.Scripts.{commands_in}
-use Rattle.script_lang.specs.Served.{IsServed}
 use Rattle.script_lang.specs.declared.fault.LineKind.{LineKind}
 use Rattle.script_lang.specs.declared.fault.LineKind.TheVariants as kind
-use Rattle.script_lang.specs.declared.grammar.Grammar.{Grammar}
-use Rattle.script_lang.specs.declared.grammar.Grammar.TheVariants.{Served}
 use Rattle.script_lang.specs.declared.line.LineRequest.{LineRequest}
-use Rattle.script_lang.specs.Commands.{pages_of}
+use Rattle.script_lang.specs.Commands.{count_of_pages}
 use Rattle.script_lang.specs.Lines.{says}
-use Rattle.script_lang.specs.Script.{lines, all_ok, pages_of_requests, within_pages, requests_in, with_command}
-use Rattle.script_lang.specs.Script.{with_request, script_of, reads_as, wrong_after, wrong_on, IsFirstBad}
+use Rattle.script_lang.specs.Script.{lines, all_ok, pages_of_requests, within_pages, requests_in}
+use Rattle.script_lang.specs.Script.{with_request, script_of, reads, wrong_after, wrong_on, IsFirstBad}
 use Rattle.script_lang.proofs.Requests.{IsSized}
 use Rattle.script_lang.proofs.ScriptLimits.{all_oks, not_lt, stay_many, in_few_lines, none_asked, in_many_lines}
 use Rattle.script_lang.proofs.ScriptLimits.{no_script}
 
 -- so many lines before ask for what stands in this script
-pub record IsReading (grammar : Grammar) (all left : List (List ℕ)) (script : List (List Command)) (number pages : ℕ)
-    : Type 0 where
+pub record IsReading (all left : List (List ℕ)) (script : List (List Command)) (number pages : ℕ) : Type 0 where
   pub before : List (List ℕ)
   pub requests : List LineRequest
   pub whole : all ≡ before ++ left
-  pub good : map (says grammar) before ≡ map Ok requests
+  pub good : map says before ≡ map Ok requests
   pub script_is : script ≡ script_of requests
   pub number_is : number ≡ length before
   pub fits : number ≤ 2 ^ 16
@@ -40,12 +33,11 @@ pub record IsReading (grammar : Grammar) (all left : List (List ℕ)) (script : 
   pub within : pages ≤ 2 ^ 16
   pub room : commands_in script ≤ pages + number
   pub paged : 0 < pages → commands_in script + 1 ≤ pages + number
-  pub heads : grammar ≡ Served → All (All IsServed) script
 
 -- before the first line nothing is asked for
-pub begun : (grammar : Grammar) (all left : List (List ℕ)) (script : List (List Command)) → left ≡ all
-    → script ≡ replicate 16 [] → IsReading grammar all left script 0 0
-begun grammar all left script e s = record {
+pub begun : (all left : List (List ℕ)) (script : List (List Command)) → left ≡ all
+    → script ≡ replicate 16 [] → IsReading all left script 0 0
+begun all left script e s = record {
   before = [];
   requests = [];
   whole = sym e;
@@ -57,25 +49,7 @@ begun grammar all left script e s = record {
   within = omega arith;
   room = omega (arith, ap commands_in s);
   paged = λ more. absurd (omega arith);
-  heads = λ served. subst (All (All IsServed)) (sym s) (All-replicate (All IsServed) 16 [] (All-nil IsServed));
 }
-
--- the list of a channel, if each list is of commands on heads
-pub all_served : (script : List (List Command)) → All (All IsServed) script → (channel : ℕ)
-    → All IsServed (slice_index_or script channel [])
-all_served script all channel = elim (cases_lt channel (length script)) [
-  | inl lt ↦ All-get_or (All IsServed) script channel [] lt all
-  | inr past ↦ subst (All IsServed) (sym (get_or_past script channel [] past)) (All-nil IsServed)
-]
-
-pub served_pushed : (channel : ℕ) (commands : List Command) (script : List (List Command)) → All (All IsServed) script
-    → All IsServed commands → All (All IsServed) (fold (with_command channel) script commands)
-served_pushed channel [] script all on = all
-served_pushed channel (command ∷ commands) script all on =
-    served_pushed channel commands (with_command channel script command)
-    (All-set (All IsServed) script channel _
-    (All-push IsServed _ command (all_served script all channel) (All-head IsServed command commands on)) all)
-    (All-tail IsServed command commands on)
 
 -- the numbers after one more request
 more_room : (commands number pages len more : ℕ) → (len ≤ 1) ⊎ (len ≡ more) → commands ≤ pages + number
@@ -103,23 +77,23 @@ shifted : (requests : List LineRequest) (request : LineRequest) (later : List (R
 shifted requests request later = sym (append_assoc (map Ok requests) (Ok request ∷ []) later)
     ∙ ap (λ rs. rs ++ later) (sym (map-append Ok requests (request ∷ [])))
 
-module _ (grammar : Grammar) (all left : List (List ℕ)) (line : List ℕ) (rest : List (List ℕ))
+module _ (all left : List (List ℕ)) (line : List ℕ) (rest : List (List ℕ))
     (script : List (List Command)) (number pages : ℕ)
-    (r : IsReading grammar all left script number pages) (e : left ≡ line ∷ rest) where
+    (r : IsReading all left script number pages) (e : left ≡ line ∷ rest) where
   whole_is : all ≡ r.before ++ line ∷ rest
   whole_is = r.whole ∙ ap (λ ls. r.before ++ ls) e
 
-  good_before : requests_in grammar r.before ≡ Some r.requests
-  good_before = in_few_lines grammar r.before r.requests (omega (arith, r.number_is, r.fits)) r.good
+  good_before : requests_in r.before ≡ Some r.requests
+  good_before = in_few_lines r.before r.requests (omega (arith, r.number_is, r.fits)) r.good
       (omega (arith, r.pages_are, r.within))
 
-  all_said : map (says grammar) all ≡ map Ok r.requests ++ says grammar line ∷ map (says grammar) rest
-  all_said = ap (map (says grammar)) whole_is ∙ map-append (says grammar) r.before (line ∷ rest)
-      ∙ ap (λ cs. cs ++ says grammar line ∷ map (says grammar) rest) r.good
+  all_said : map says all ≡ map Ok r.requests ++ says line ∷ map says rest
+  all_said = ap (map says) whole_is ∙ map-append says r.before (line ∷ rest)
+      ∙ ap (λ cs. cs ++ says line ∷ map says rest) r.good
 
   first_bad : (text : List ℕ) (kind : LineKind) → length text ≤ 2 ^ 20 → all ≡ lines text
-      → wrong_on grammar (number + 1) (pages_of_requests r.requests) line ≡ Some kind
-      → IsFirstBad grammar text (number + 1) kind
+      → wrong_on (number + 1) (pages_of_requests r.requests) line ≡ Some kind
+      → IsFirstBad text (number + 1) kind
   first_bad text kind small is wrong = record {
     before = r.before;
     requests = r.requests;
@@ -134,26 +108,25 @@ module _ (grammar : Grammar) (all left : List (List ℕ)) (line : List ℕ) (res
 
   -- within the limit of lines the line itself says what is wrong
   wrong_here : number + 1 ≤ 2 ^ 16
-      → wrong_on grammar (number + 1) (pages_of_requests r.requests) line
-      ≡ wrong_after (pages_of_requests r.requests) (says grammar line)
-  wrong_here few = ap (λ b. cond b (Some kind.Limit) (wrong_after (pages_of_requests r.requests) (says grammar line)))
+      → wrong_on (number + 1) (pages_of_requests r.requests) line
+      ≡ wrong_after (pages_of_requests r.requests) (says line)
+  wrong_here few = ap (λ b. cond b (Some kind.Limit) (wrong_after (pages_of_requests r.requests) (says line)))
       (not_lt (2 ^ 16) (number + 1) few)
 
-  module _ (request : LineRequest) (said : says grammar line ≡ Ok request) where
+  module _ (request : LineRequest) (said : says line ≡ Ok request) where
     -- one line more, within the limits, adds what it asks for
     pub one_more : (next : List (List Command)) → IsSized request.commands
-        → (grammar ≡ Served → All IsServed request.commands)
-        → number + 1 ≤ 2 ^ 16 → pages + pages_of request.commands ≤ 2 ^ 16
+        → number + 1 ≤ 2 ^ 16 → pages + count_of_pages request.commands ≤ 2 ^ 16
         → next ≡ with_request script request → commands_in next ≡ commands_in script + length request.commands
-        → IsReading grammar all rest next (number + 1) (pages + pages_of request.commands)
-    one_more next sized on few within pushed count =
+        → IsReading all rest next (number + 1) (pages + count_of_pages request.commands)
+    one_more next sized few within pushed count =
         let numbers = more_room (commands_in script) number pages (length request.commands)
-        (pages_of request.commands) sized r.room r.paged in
+        (count_of_pages request.commands) sized r.room r.paged in
         record {
           before = r.before ++ line ∷ [];
           requests = r.requests ++ request ∷ [];
           whole = whole_is ∙ sym (append_assoc r.before (line ∷ []) rest);
-          good = map-append (says grammar) r.before (line ∷ []) ∙ ap (λ cs. cs ++ says grammar line ∷ []) r.good
+          good = map-append says r.before (line ∷ []) ∙ ap (λ cs. cs ++ says line ∷ []) r.good
               ∙ ap (λ c. map Ok r.requests ++ c ∷ []) said ∙ sym (map-append Ok r.requests (request ∷ []));
           script_is = pushed ∙ ap (λ (s : List (List Command)). with_request s request) r.script_is
               ∙ sym (fold_push with_request (replicate 16 []) r.requests request);
@@ -162,109 +135,101 @@ module _ (grammar : Grammar) (all left : List (List ℕ)) (line : List ℕ) (res
           pages_are = omega (
             arith,
             r.pages_are,
-            sum_by-append (λ (q : LineRequest). pages_of q.commands) r.requests
+            sum_by-append (λ (q : LineRequest). count_of_pages q.commands) r.requests
                 (request ∷ []),
           );
           within = within;
           room = omega (arith, count, numbers.0);
           paged = λ some. let more = numbers.1 some in omega (arith, count);
-          heads = λ served. subst (All (All IsServed)) (sym pushed)
-              (served_pushed request.channel request.commands script (r.heads served) (on served));
         }
 
     -- with this line the pages are too many
     pub too_many_pages : (text : List ℕ) → length text ≤ 2 ^ 20 → all ≡ lines text → number + 1 ≤ 2 ^ 16
-        → 2 ^ 16 < pages + pages_of request.commands
-        → IsFirstBad grammar text (number + 1) kind.Limit × (reads_as grammar text ≡ None)
+        → 2 ^ 16 < pages + count_of_pages request.commands
+        → IsFirstBad text (number + 1) kind.Limit × (reads text ≡ None)
     too_many_pages text small is few over =
-        let more : 2 ^ 16 < pages_of_requests r.requests + pages_of request.commands =
+        let more : 2 ^ 16 < pages_of_requests r.requests + count_of_pages request.commands =
         omega (arith, over, r.pages_are) in
-        let limit : wrong_after (pages_of_requests r.requests) (says grammar line) ≡ Some kind.Limit =
+        let limit : wrong_after (pages_of_requests r.requests) (says line) ≡ Some kind.Limit =
         ap (wrong_after (pages_of_requests r.requests)) said
         ∙ ap (λ b. cond b (Some kind.Limit) None)
-        (lt-ltb (2 ^ 16) (pages_of_requests r.requests + pages_of request.commands) more) in
+        (lt-ltb (2 ^ 16) (pages_of_requests r.requests + count_of_pages request.commands) more) in
         let whole : pages_of_requests (r.requests ++ request ∷ [])
-        ≡ pages_of_requests r.requests + pages_of request.commands =
-        omega (arith, sum_by-append (λ (q : LineRequest). pages_of q.commands) r.requests (request ∷ [])) in
-        let asked : all_ok (map (says grammar) all) ≡ option_map (λ later. (r.requests ++ request ∷ []) ++ later)
-        (all_ok (map (says grammar) rest)) =
-        ap all_ok (all_said ∙ ap (λ c. map Ok r.requests ++ c ∷ map (says grammar) rest) said
-        ∙ shifted r.requests request (map (says grammar) rest))
-        ∙ all_oks (r.requests ++ request ∷ []) (map (says grammar) rest) in (
+        ≡ pages_of_requests r.requests + count_of_pages request.commands =
+        omega (arith, sum_by-append (λ (q : LineRequest). count_of_pages q.commands) r.requests (request ∷ [])) in
+        let asked : all_ok (map says all) ≡ option_map (λ later. (r.requests ++ request ∷ []) ++ later)
+        (all_ok (map says rest)) =
+        ap all_ok (all_said ∙ ap (λ c. map Ok r.requests ++ c ∷ map says rest) said
+        ∙ shifted r.requests request (map says rest))
+        ∙ all_oks (r.requests ++ request ∷ []) (map says rest) in (
           first_bad text kind.Limit small is (wrong_here few ∙ limit),
-          no_script grammar text (ap (requests_in grammar) (sym is)
-              ∙ none_asked grammar all (ap (option_and_then within_pages) asked
-              ∙ stay_many (r.requests ++ request ∷ []) (all_ok (map (says grammar) rest))
+          no_script text (ap requests_in (sym is)
+              ∙ none_asked all (ap (option_and_then within_pages) asked
+              ∙ stay_many (r.requests ++ request ∷ []) (all_ok (map says rest))
               (omega (arith, whole, more)))),
         )
 
   pub bad_line : (text : List ℕ) (kind : LineKind) → length text ≤ 2 ^ 20 → all ≡ lines text → number + 1 ≤ 2 ^ 16
-      → says grammar line ≡ Err kind
-      → IsFirstBad grammar text (number + 1) kind × (reads_as grammar text ≡ None)
+      → says line ≡ Err kind
+      → IsFirstBad text (number + 1) kind × (reads text ≡ None)
   bad_line text kind small is few said =
-      let asked : all_ok (map (says grammar) all) ≡ None =
-      ap all_ok (all_said ∙ ap (λ c. map Ok r.requests ++ c ∷ map (says grammar) rest) said)
-      ∙ all_oks r.requests (Err kind ∷ map (says grammar) rest) in (
+      let asked : all_ok (map says all) ≡ None =
+      ap all_ok (all_said ∙ ap (λ c. map Ok r.requests ++ c ∷ map says rest) said)
+      ∙ all_oks r.requests (Err kind ∷ map says rest) in (
         first_bad text kind small is (wrong_here few ∙ ap (wrong_after (pages_of_requests r.requests)) said),
-        no_script grammar text (ap (requests_in grammar) (sym is)
-            ∙ none_asked grammar all (ap (option_and_then within_pages) asked)),
+        no_script text (ap requests_in (sym is)
+            ∙ none_asked all (ap (option_and_then within_pages) asked)),
       )
 
   pub too_many_lines : (text : List ℕ) → length text ≤ 2 ^ 20 → all ≡ lines text → 2 ^ 16 < number + 1
-      → IsFirstBad grammar text (number + 1) kind.Limit × (reads_as grammar text ≡ None)
+      → IsFirstBad text (number + 1) kind.Limit × (reads text ≡ None)
   too_many_lines text small is many =
       let long : 2 ^ 16 < length all = omega
       (arith, many, r.number_is, ap length whole_is, length-append r.before (line ∷ rest)) in (
         first_bad text kind.Limit small is
-            (ap (λ b. cond b (Some kind.Limit) (wrong_after (pages_of_requests r.requests) (says grammar line)))
+            (ap (λ b. cond b (Some kind.Limit) (wrong_after (pages_of_requests r.requests) (says line)))
             (lt-ltb (2 ^ 16) (number + 1) many)),
-        no_script grammar text (ap (requests_in grammar) (sym is) ∙ in_many_lines grammar all long),
+        no_script text (ap requests_in (sym is) ∙ in_many_lines all long),
       )
 
 -- after the last line the text is read
-pub all_read : (grammar : Grammar) (text : List ℕ) (left : List (List ℕ)) (script : List (List Command))
+pub all_read : (text : List ℕ) (left : List (List ℕ)) (script : List (List Command))
     (number pages : ℕ) → length text ≤ 2 ^ 20
-    → IsReading grammar (lines text) left script number pages → left ≡ [] → reads_as grammar text ≡ Some script
-all_read grammar text left script number pages small r e =
+    → IsReading (lines text) left script number pages → left ≡ [] → reads text ≡ Some script
+all_read text left script number pages small r e =
     let none : r.before ++ left ≡ r.before = grind (arith, common_steps, e) in
-    let asked : requests_in grammar (lines text) ≡ Some r.requests =
-    ap (requests_in grammar) (r.whole ∙ none)
-    ∙ in_few_lines grammar r.before r.requests (omega (arith, r.number_is, r.fits)) r.good
+    let asked : requests_in (lines text) ≡ Some r.requests =
+    ap requests_in (r.whole ∙ none)
+    ∙ in_few_lines r.before r.requests (omega (arith, r.number_is, r.fits)) r.good
     (omega (arith, r.pages_are, r.within)) in
-    ap (λ b. cond b (option_map script_of (requests_in grammar (lines text))) None)
+    ap (λ b. cond b (option_map script_of (requests_in (lines text))) None)
     (le-leb (length text) (2 ^ 20) small)
     ∙ ap (option_map script_of) asked
     ∙ ap Some (sym r.script_is)
 
 -- there is room for a request's commands
-pub pushed_room : (grammar : Grammar) (all left : List (List ℕ)) (script : List (List Command)) {number pages : ℕ}
-    → (r : IsReading grammar all left script number pages) → (request : LineRequest) → IsSized request.commands
-    → number + 1 ≤ 2 ^ 16 → pages + pages_of request.commands ≤ 2 ^ 16
+pub pushed_room : (all left : List (List ℕ)) (script : List (List Command)) {number pages : ℕ}
+    → (r : IsReading all left script number pages) → (request : LineRequest) → IsSized request.commands
+    → number + 1 ≤ 2 ^ 16 → pages + count_of_pages request.commands ≤ 2 ^ 16
     → commands_in script + length request.commands ≤ 131071
-pushed_room grammar all left script {number} {pages} r request sized few within =
-    let numbers = more_room (commands_in script) number pages (length request.commands) (pages_of request.commands)
-    sized r.room r.paged in
-    elim (cases_lt 0 (pages + pages_of request.commands)) [
+pushed_room all left script {number} {pages} r request sized few within =
+    let numbers = more_room (commands_in script) number pages (length request.commands)
+    (count_of_pages request.commands) sized r.room r.paged in
+    elim (cases_lt 0 (pages + count_of_pages request.commands)) [
       | inl some ↦ let more = numbers.1 some in omega arith
       | inr none ↦ let less = numbers.0 in omega arith
     ]
 
--- as served, each command is on a blob named by its head
-pub served_in : (grammar : Grammar) (all left : List (List ℕ)) (script : List (List Command)) {number pages : ℕ}
-    → IsReading grammar all left script number pages → grammar ≡ Served → (channel : ℕ)
-    → All IsServed (slice_index_or script channel [])
-served_in grammar all left script r served = all_served script (r.heads served)
-
 -- there are fewer commands than lines and pages together may be
-pub few_read : (grammar : Grammar) (all left : List (List ℕ)) (script : List (List Command)) {number pages : ℕ}
-    → IsReading grammar all left script number pages → commands_in script ≤ 131071
-few_read grammar all left script {number} {pages} r = elim (cases_lt 0 pages) [
+pub few_read : (all left : List (List ℕ)) (script : List (List Command)) {number pages : ℕ}
+    → IsReading all left script number pages → commands_in script ≤ 131071
+few_read all left script {number} {pages} r = elim (cases_lt 0 pages) [
   | inl some ↦ let more = r.paged some in omega (arith, r.fits, r.within, more)
   | inr none ↦ omega (arith, r.room, r.fits, none)
 ]
 
 -- the same for a number of pages that is the same
-pub same_pages : (grammar : Grammar) (all left : List (List ℕ)) (script : List (List Command)) (number pages new : ℕ)
-    → IsReading grammar all left script number pages → new ≡ pages → IsReading grammar all left script number new
-same_pages grammar all left script number pages new r e = subst
-    (λ (n : ℕ). IsReading grammar all left script number n) (sym e) r
+pub same_pages : (all left : List (List ℕ)) (script : List (List Command)) (number pages new : ℕ)
+    → IsReading all left script number pages → new ≡ pages → IsReading all left script number new
+same_pages all left script number pages new r e = subst
+    (λ (n : ℕ). IsReading all left script number n) (sym e) r

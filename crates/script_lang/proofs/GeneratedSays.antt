@@ -24,13 +24,12 @@ use Rattle.script_lang.specs.declared.form.Value.TheVariants as value
 use Rattle.script_lang.specs.declared.generated.GeneratedCommand.{GeneratedCommand}
 use Rattle.script_lang.specs.declared.generated.GeneratedCommand.TheVariants.{Create, Write, Read, Flush, Put}
 use Rattle.script_lang.specs.declared.generated.GeneratedLine.{GeneratedLine}
-use Rattle.script_lang.specs.declared.grammar.Grammar.TheVariants.{Whole}
 use Rattle.script_lang.specs.declared.verb.Verb.{Verb}
 use Rattle.script_lang.specs.declared.verb.Verb.TheVariants as v
 use Rattle.script_lang.specs.Commands.{commands_of, page_by_page, write_at, read_at}
 use Rattle.script_lang.specs.Forms.{says_word, says_values, joined, or_kind}
 use Rattle.script_lang.specs.Generated.{AreDrawn, drawn_command, drawn_line, making_line, generated_line, volume_name}
-use Rattle.script_lang.specs.Generated.{words_of, text_of, command_of, request_of}
+use Rattle.script_lang.specs.Generated.{words_of, text_of, generated_command, request_of}
 use Rattle.script_lang.specs.Generator.{after_draws, drawn, before_line}
 use Rattle.script_lang.specs.Lines.{says, says_words, says_verb, commands_said, in_channel, is_skipped, is_printable}
 use Rattle.script_lang.specs.Lines.{is_spaced, words, no_request}
@@ -80,12 +79,12 @@ words_said _ _ _ (more_words f forms word more x values w e later) =
 
 -- a line of the grammar
 abbrev IsGood : ℕ → List ℕ → List Command → Type 0
-IsGood channel line commands = (says Whole line ≡ Ok (record { channel = channel; commands = commands }))
+IsGood channel line commands = (says line ≡ Ok (record { channel = channel; commands = commands }))
     × (is_printable line ≡ true)
 
 -- a channel, a verb and its words say what the verb and its values say
 says_line : (channel : ℕ) (name : List ℕ) (verb : Verb) (more : List (List ℕ)) (values : List Value)
-    (commands : List Command) → channel < 4 → IsWord name → verb_in Whole name ≡ Some verb
+    (commands : List Command) → channel < 4 → IsWord name → verb_in name ≡ Some verb
     → takes verb (length more) ≡ true → AreSaid (forms_of verb) more values
     → commands_of verb values ≡ Ok commands
     → IsGood channel (spaced (decimal channel) (name ∷ more)) commands
@@ -97,11 +96,11 @@ says_line channel name verb more values commands lt word is_verb few said made =
     let printable : is_printable line ≡ true = are_printable (decimal channel) (name ∷ more) first rest in
     let good : (is_printable line && is_spaced line) ≡ true =
     ap (λ b. b && is_spaced line) printable ∙ are_spaced (decimal channel) (name ∷ more) first rest in (
-      ap (λ b. cond b (Ok no_request) (cond (is_printable line && is_spaced line) (says_words Whole (words line))
+      ap (λ b. cond b (Ok no_request) (cond (is_printable line && is_spaced line) (says_words (words line))
           (Err kind.Form))) (not_skipped channel (32 ∷ spaced name more) lt)
-          ∙ ap (λ b. cond b (says_words Whole (words line)) (Err kind.Form)) good
-          ∙ ap (says_words Whole) (words_are (decimal channel) (name ∷ more) first rest)
-          ∙ ap (λ o. in_channel o (says_verb (verb_in Whole name) more))
+          ∙ ap (λ b. cond b (says_words (words line)) (Err kind.Form)) good
+          ∙ ap says_words (words_are (decimal channel) (name ∷ more) first rest)
+          ∙ ap (λ o. in_channel o (says_verb (verb_in name) more))
           (is_number 16 channel (decimal channel) (omega arith) (omega arith) refl)
           ∙ ap (λ o. in_channel (Some channel) (says_verb o more)) is_verb
           ∙ ap (λ b. in_channel (Some channel)
@@ -165,11 +164,11 @@ abbrev written : {word : List ℕ} → nat_lt 0 (length word) ≡ true → is_vi
 written some visible = record { some = some; visible = visible }
 
 create_said : (channel volume : ℕ) → channel < 4 → volume < 4
-    → IsGood channel (decimal channel ++ words_of (Create volume)) (command_of (Create volume) ∷ [])
+    → IsGood channel (decimal channel ++ words_of (Create volume)) (generated_command (Create volume) ∷ [])
 unfolding verb_in
 create_said channel volume lt small =
     says_line channel (codes "create") v.Create (volume_name volume ∷ codes "8" ∷ codes "thin" ∷ [])
-    (value.Name (volume_name volume) ∷ value.Number 8 ∷ value.Thick false ∷ []) (command_of (Create volume) ∷ [])
+    (value.Name (volume_name volume) ∷ value.Number 8 ∷ value.Thick false ∷ []) (generated_command (Create volume) ∷ [])
     lt (written refl refl) refl refl
     (more_words _ _ _ _ _ _ (volume_word volume small) (ap (option_map value.Name) (name_said volume small))
     (more_words _ _ _ _ _ _ (written refl refl)
@@ -178,17 +177,19 @@ create_said channel volume lt small =
     refl
 
 write_said : (channel volume page word : ℕ) → channel < 4 → volume < 4 → page < 32 → word < 32768
-    → IsGood channel (decimal channel ++ words_of (Write volume page word)) (command_of (Write volume page word) ∷ [])
+    → IsGood channel (decimal channel ++ words_of (Write volume page word))
+    (generated_command (Write volume page word) ∷ [])
 unfolding verb_in
 write_said channel volume page word lt small few less =
     subst
-    (λ rest. IsGood channel (decimal channel ++ (codes " write v" ++ rest)) (command_of (Write volume page word) ∷ []))
+    (λ rest. IsGood channel (decimal channel ++ (codes " write v" ++ rest))
+    (generated_command (Write volume page word) ∷ []))
     (sym (append_assoc (decimal volume ++ codes " " ++ decimal page) (codes " 1 ") (decimal word)
     ∙ append_assoc (decimal volume ++ codes " ") (decimal page) (codes " 1 " ++ decimal word)
     ∙ append_assoc (decimal volume) (codes " ") (decimal page ++ (codes " 1 " ++ decimal word))))
     (says_line channel (codes "write") v.Write (volume_name volume ∷ decimal page ∷ codes "1" ∷ decimal word ∷ [])
     (value.Volume (Named (volume_name volume)) ∷ value.Number page ∷ value.Number 1 ∷ value.Number word ∷ [])
-    (command_of (Write volume page word) ∷ []) lt (written refl refl) refl refl
+    (generated_command (Write volume page word) ∷ []) lt (written refl refl) refl refl
     (more_words _ _ _ _ _ _ (volume_word volume small) (volume_said volume small)
     (more_words _ _ _ _ _ _ (decimal_word page (omega arith)) (number_said page (decimal page) (omega arith) refl)
     (more_words _ _ _ _ _ _ (written refl refl) count_said
@@ -198,15 +199,16 @@ write_said channel volume page word lt small few less =
     ∙ ap (λ command. Ok (command ∷ [])) (first_write (Named (volume_name volume)) page word less)))
 
 read_said : (channel volume page : ℕ) → channel < 4 → volume < 4 → page < 32
-    → IsGood channel (decimal channel ++ words_of (Read volume page)) (command_of (Read volume page) ∷ [])
+    → IsGood channel (decimal channel ++ words_of (Read volume page)) (generated_command (Read volume page) ∷ [])
 unfolding verb_in
 read_said channel volume page lt small few =
-    subst (λ rest. IsGood channel (decimal channel ++ (codes " read v" ++ rest)) (command_of (Read volume page) ∷ []))
+    subst (λ rest. IsGood channel (decimal channel ++ (codes " read v" ++ rest))
+    (generated_command (Read volume page) ∷ []))
     (sym (append_assoc (decimal volume ++ codes " ") (decimal page) (codes " 1")
     ∙ append_assoc (decimal volume) (codes " ") (decimal page ++ codes " 1")))
     (says_line channel (codes "read") v.Read (volume_name volume ∷ decimal page ∷ codes "1" ∷ [])
     (value.Volume (Named (volume_name volume)) ∷ value.Number page ∷ value.Number 1 ∷ [])
-    (command_of (Read volume page) ∷ []) lt (written refl refl) refl refl
+    (generated_command (Read volume page) ∷ []) lt (written refl refl) refl refl
     (more_words _ _ _ _ _ _ (volume_word volume small) (volume_said volume small)
     (more_words _ _ _ _ _ _ (decimal_word page (omega arith)) (number_said page (decimal page) (omega arith) refl)
     (more_words _ _ _ _ _ _ (written refl refl) count_said (no_words []))))
@@ -214,33 +216,34 @@ read_said channel volume page lt small few =
     ∙ ap (λ command. Ok (command ∷ [])) (first_read (Named (volume_name volume)) page)))
 
 flush_said : (channel : ℕ) → channel < 4
-    → IsGood channel (decimal channel ++ words_of Flush) (command_of Flush ∷ [])
+    → IsGood channel (decimal channel ++ words_of Flush) (generated_command Flush ∷ [])
 unfolding verb_in
 flush_said channel lt = says_line channel (codes "flush") v.Flush [] [] (c.Flush ∷ []) lt
     (written refl refl) refl refl (no_words []) refl
 
 put_said : (channel volume number : ℕ) → channel < 4 → volume < 4 → number < 1000
-    → IsGood channel (decimal channel ++ words_of (Put volume number)) (command_of (Put volume number) ∷ [])
+    → IsGood channel (decimal channel ++ words_of (Put volume number)) (generated_command (Put volume number) ∷ [])
 unfolding verb_in
 put_said channel volume number lt small few =
-    subst (λ rest. IsGood channel (decimal channel ++ (codes " put v" ++ rest)) (command_of (Put volume number) ∷ []))
+    subst (λ rest. IsGood channel (decimal channel ++ (codes " put v" ++ rest))
+    (generated_command (Put volume number) ∷ []))
     (sym (append_assoc (decimal volume) (codes " k t:") (decimal number)))
     (says_line channel (codes "put") v.Put (volume_name volume ∷ codes "k" ∷ (codes "t:" ++ decimal number) ∷ [])
     (value.Volume (Named (volume_name volume)) ∷ value.Text (codes "k") ∷ value.Text (decimal number) ∷ [])
-    (command_of (Put volume number) ∷ []) lt (written refl refl) refl refl
+    (generated_command (Put volume number) ∷ []) lt (written refl refl) refl refl
     (more_words _ _ _ _ _ _ (volume_word volume small) (volume_said volume small)
     (more_words _ _ _ _ _ _ (written refl refl) refl
     (more_words _ _ _ _ _ _ (text_word number (omega arith))
     (ap (option_map value.Text) (text_value number (omega arith))) (no_words []))))
     refl)
 
-command_said : (channel : ℕ) (command : GeneratedCommand) → channel < 4 → AreDrawn command
-    → IsGood channel (decimal channel ++ words_of command) (command_of command ∷ [])
-command_said channel (Create volume) lt d = create_said channel volume lt d
-command_said channel (Write volume page word) lt d = write_said channel volume page word lt d.0 d.1 d.2
-command_said channel (Read volume page) lt d = read_said channel volume page lt d.0 d.1
-command_said channel Flush lt d = flush_said channel lt
-command_said channel (Put volume number) lt d = put_said channel volume number lt d.0 d.1
+command_is_said : (channel : ℕ) (command : GeneratedCommand) → channel < 4 → AreDrawn command
+    → IsGood channel (decimal channel ++ words_of command) (generated_command command ∷ [])
+command_is_said channel (Create volume) lt d = create_said channel volume lt d
+command_is_said channel (Write volume page word) lt d = write_said channel volume page word lt d.0 d.1 d.2
+command_is_said channel (Read volume page) lt d = read_said channel volume page lt d.0 d.1
+command_is_said channel Flush lt d = flush_said channel lt
+command_is_said channel (Put volume number) lt d = put_said channel volume number lt d.0 d.1
 
 -- what holds of both of two holds of the chosen one
 chosen : {X : Type 0} (P : X → Type 0) (b : Bool) (x y : X) → (b ≡ true → P x) → P y → P (cond b x y)
@@ -280,13 +283,13 @@ small_line number line =
 
 -- each generated line asks for its command in its channel
 pub line_said : (number line : ℕ)
-    → says Whole (text_of (generated_line number line)) ≡ Ok (request_of (generated_line number line))
+    → says (text_of (generated_line number line)) ≡ Ok (request_of (generated_line number line))
 line_said number line =
     let small = small_line number line in
-    (command_said _ (generated_line number line).command small.channel small.command).0
+    (command_is_said _ (generated_line number line).command small.channel small.command).0
 
 -- the text of each generated line is printable
 pub line_printable : (number line : ℕ) → is_printable (text_of (generated_line number line)) ≡ true
 line_printable number line =
     let small = small_line number line in
-    (command_said _ (generated_line number line).command small.channel small.command).1
+    (command_is_said _ (generated_line number line).command small.channel small.command).1

@@ -1,4 +1,4 @@
--- A generated text is a script of the whole grammar, as far as it isn't too long.
+-- A generated text is a script, as far as it isn't too long.
 use Rattle.std.proofs.Common.{◌≡◌, ℕ, ◌+◌, ◌*◌, ◌<◌, ◌≤◌, ◌^◌, true, false, ◌&&◌, cond, eqb, List, [], ◌∷◌, ◌++◌}
 use Rattle.std.proofs.Common.{length, map, Some, None, Ok, refl, sym, ap, ◌∙◌, codes, decimal, append_assoc}
 use Rattle.std.proofs.Common.{length-append, arith}
@@ -14,13 +14,12 @@ use Rattle.std.proofs.lemmas.List.Sums.{AllPass-from_list_all, fold_push, sum_by
 use Rattle.volume_model.specs.declared.command.Command.{Command}
 use Rattle.script_lang.specs.declared.generated.GeneratedCommand.{GeneratedCommand}
 use Rattle.script_lang.specs.declared.generated.GeneratedCommand.TheVariants.{Create, Write, Read, Flush, Put}
-use Rattle.script_lang.specs.declared.grammar.Grammar.TheVariants.{Whole}
 use Rattle.script_lang.specs.declared.line.LineRequest.{LineRequest}
-use Rattle.script_lang.specs.Commands.{pages_of}
-use Rattle.script_lang.specs.Generated.{AreDrawn, generated_line, text_of, words_of, command_of, request_of}
+use Rattle.script_lang.specs.Commands.{count_of_pages}
+use Rattle.script_lang.specs.Generated.{AreDrawn, generated_line, text_of, words_of, generated_command, request_of}
 use Rattle.script_lang.specs.Generated.{generated_lines, generated_requests}
 use Rattle.script_lang.specs.Lines.{says}
-use Rattle.script_lang.specs.Script.{lines, pages_of_requests, requests_in, script_of, reads_as, with_request}
+use Rattle.script_lang.specs.Script.{lines, pages_of_requests, requests_in, script_of, reads, with_request}
 use Rattle.script_lang.proofs.ScriptLimits.{in_few_lines}
 use Rattle.script_lang.proofs.EndedLines.{lines_are, one_line_more}
 use Rattle.script_lang.proofs.GeneratedSays.{line_said, line_printable, small_line}
@@ -38,14 +37,14 @@ generated_lines_are : (number n : ℕ)
     → lines (generated_lines number n) ≡ map (λ line. text_of (generated_line number line)) (range_with_len 0 n)
 generated_lines_are number n = lines_are (λ line. text_of (generated_line number line)) (without_end number) n
 
-all_said : (number : ℕ) (ns : List ℕ) → map (says Whole) (map (λ line. text_of (generated_line number line)) ns)
+all_said : (number : ℕ) (ns : List ℕ) → map says (map (λ line. text_of (generated_line number line)) ns)
     ≡ map Ok (map (λ line. request_of (generated_line number line)) ns)
 all_said number [] = refl
 all_said number (n ∷ ns) =
-    ap (λ said. said ∷ map (says Whole) (map (λ line. text_of (generated_line number line)) ns)) (line_said number n)
+    ap (λ said. said ∷ map says (map (λ line. text_of (generated_line number line)) ns)) (line_said number n)
     ∙ ap (λ later. Ok (request_of (generated_line number n)) ∷ later) (all_said number ns)
 
-one_page : (command : GeneratedCommand) → pages_of (command_of command ∷ []) ≤ 1
+one_page : (command : GeneratedCommand) → count_of_pages (generated_command command ∷ []) ≤ 1
 one_page (Create volume) = omega arith
 one_page (Write volume page word) = omega arith
 one_page (Read volume page) = omega arith
@@ -61,25 +60,25 @@ few_pages number (n ∷ ns) =
       arith,
       one_page (generated_line number n).command,
       few_pages number ns,
-      sum_by-append (λ (q : LineRequest). pages_of q.commands) (request_of (generated_line number n) ∷ []) more,
+      sum_by-append (λ (q : LineRequest). count_of_pages q.commands) (request_of (generated_line number n) ∷ []) more,
     )
 
 -- each of at most 65,536 generated lines is of the grammar, and they read and write at most 65,536 pages
 pub lines_said : (number n : ℕ) → n ≤ 2 ^ 16
-    → requests_in Whole (lines (generated_lines number n)) ≡ Some (generated_requests number n)
+    → requests_in (lines (generated_lines number n)) ≡ Some (generated_requests number n)
 lines_said number n few =
     let ns : List ℕ = range_with_len 0 n in
-    ap (requests_in Whole) (generated_lines_are number n)
-    ∙ in_few_lines Whole (map (λ line. text_of (generated_line number line)) ns) (generated_requests number n)
+    ap requests_in (generated_lines_are number n)
+    ∙ in_few_lines (map (λ line. text_of (generated_line number line)) ns) (generated_requests number n)
     (omega (arith, few, length-map ns (λ line. text_of (generated_line number line)), length-range_with_len 0 n))
     (all_said number ns)
     (omega (arith, few, few_pages number ns, length-range_with_len 0 n))
 
 -- such a text of at most 1,048,576 bytes is a script
 pub text_read : (number n : ℕ) → n ≤ 2 ^ 16 → length (generated_lines number n) ≤ 2 ^ 20
-    → reads_as Whole (generated_lines number n) ≡ Some (script_of (generated_requests number n))
+    → reads (generated_lines number n) ≡ Some (script_of (generated_requests number n))
 text_read number n few short =
-    ap (λ b. cond b (option_map script_of (requests_in Whole (lines (generated_lines number n)))) None)
+    ap (λ b. cond b (option_map script_of (requests_in (lines (generated_lines number n)))) None)
     (le-leb (length (generated_lines number n)) (2 ^ 20) short)
     ∙ ap (option_map script_of) (lines_said number n few)
 

@@ -11,11 +11,9 @@ pub mod ReadValues
 pub mod Pages
 pub mod OneByOne
 pub mod Requests
-pub mod ServedHeads
 pub mod ScriptLimits
 pub mod ByLines
 pub mod SpacedWords
 pub mod GeneratedSays
 pub mod EndedLines
 pub mod GeneratedScripts
-mod GeneratedServed

@@ -7,7 +7,8 @@ use Rattle.script_lang.specs.declared.fault.LineKind.{LineKind}
 use Rattle.script_lang.specs.declared.fault.LineKind.TheVariants as kind
 use Rattle.script_lang.specs.declared.form.Form.{Form}
 use Rattle.script_lang.specs.declared.form.Value.{Value}
-use Rattle.script_lang.specs.Forms.{says_word, says_values, joined, or_kind, kind_of_form, worse, fault_after, so_far}
+use Rattle.script_lang.specs.Forms.{says_word, says_values, joined, or_kind, kind_of_form, worse, fault_after}
+use Rattle.script_lang.specs.Forms.{said_or_wrong}
 
 worse_assoc : (a b c : LineKind) → worse (worse a b) c ≡ worse a (worse b c)
 worse_assoc a b kind.Form = refl
@@ -35,11 +36,11 @@ no_words (form ∷ forms) = refl
 -- what the first words said, so many forms being read, with what the others say
 pub record IsReading (forms : List Form) (words : List (List ℕ)) (index : ℕ)
     (left : List (List ℕ)) (values : List Value) (fault : Option LineKind) : Type 0 where
-  pub whole : joined (so_far values fault) (says_values (drop index forms) left) ≡ says_values forms
+  pub whole : joined (said_or_wrong values fault) (says_values (drop index forms) left) ≡ says_values forms
       words
   pub few : length values ≤ index
 
-none_said : (r : Result (List Value) LineKind) → joined (so_far [] None) r ≡ r
+none_said : (r : Result (List Value) LineKind) → joined (said_or_wrong [] None) r ≡ r
 none_said (Ok values) = refl
 none_said (Err kind) = refl
 
@@ -48,12 +49,12 @@ pub begun : (forms : List Form) (words : List (List ℕ))
 begun forms words = record { whole = none_said (says_values forms words); few = omega arith }
 
 said_good : (values : List Value) (fault : Option LineKind) (value : Value)
-    → joined (so_far values fault) (Ok (value ∷ [])) ≡ so_far (values ++ value ∷ []) fault
+    → joined (said_or_wrong values fault) (Ok (value ∷ [])) ≡ said_or_wrong (values ++ value ∷ []) fault
 said_good values None value = refl
 said_good values (Some kind) value = refl
 
 said_bad : (values : List Value) (fault : Option LineKind) (kind : LineKind)
-    → joined (so_far values fault) (Err kind) ≡ so_far values (Some (fault_after fault kind))
+    → joined (said_or_wrong values fault) (Err kind) ≡ said_or_wrong values (Some (fault_after fault kind))
 said_bad values None kind = refl
 said_bad values (Some first) kind = refl
 
@@ -69,32 +70,32 @@ module _ (forms : List Form) (words : List (List ℕ)) (index : ℕ) (left : Lis
       → IsReading forms words (index + 1) ended values fault
   none_left ended e still = record {
     whole =
-        ap (λ w. joined (so_far values fault) (says_values (drop (index + 1) forms) w)) still
-        ∙ ap (joined (so_far values fault)) (no_words (drop (index + 1) forms)
+        ap (λ w. joined (said_or_wrong values fault) (says_values (drop (index + 1) forms) w)) still
+        ∙ ap (joined (said_or_wrong values fault)) (no_words (drop (index + 1) forms)
         ∙ sym (no_words (drop index forms)))
-        ∙ ap (λ w. joined (so_far values fault) (says_values (drop index forms) w)) (sym e)
+        ∙ ap (λ w. joined (said_or_wrong values fault) (says_values (drop index forms) w)) (sym e)
         ∙ r.whole;
     few = omega (arith, r.few);
   }
 
   module _ (word : List ℕ) (rest : List (List ℕ)) (e : left ≡ word ∷ rest) where
-    split : joined (joined (so_far values fault)
+    split : joined (joined (said_or_wrong values fault)
         (or_kind (get_or forms index d) (says_word (get_or forms index d) word)))
         (says_values (drop (index + 1) forms) rest) ≡ says_values forms words
     split =
-        joined_assoc (so_far values fault)
+        joined_assoc (said_or_wrong values fault)
         (or_kind (get_or forms index d) (says_word (get_or forms index d) word))
         (says_values (drop (index + 1) forms) rest)
-        ∙ ap (λ fs. joined (so_far values fault) (says_values fs (word ∷ rest)))
+        ∙ ap (λ fs. joined (said_or_wrong values fault) (says_values fs (word ∷ rest)))
         (sym (next_form forms index d lt))
-        ∙ ap (λ w. joined (so_far values fault) (says_values (drop index forms) w)) (sym e)
+        ∙ ap (λ w. joined (said_or_wrong values fault) (says_values (drop index forms) w)) (sym e)
         ∙ r.whole
 
     pub one_value : (value : Value) → says_word (get_or forms index d) word ≡ Some value
         → IsReading forms words (index + 1) rest (values ++ value ∷ []) fault
     one_value value said = record {
       whole = ap (λ a. joined a (says_values (drop (index + 1) forms) rest))
-          (sym (ap (λ o. joined (so_far values fault) (or_kind (get_or forms index d) o)) said
+          (sym (ap (λ o. joined (said_or_wrong values fault) (or_kind (get_or forms index d) o)) said
           ∙ said_good values fault value)) ∙ split;
       few = omega (arith, r.few, length-append values (value ∷ []));
     }
@@ -104,7 +105,7 @@ module _ (forms : List Form) (words : List (List ℕ)) (index : ℕ) (left : Lis
         (Some (fault_after fault (kind_of_form (get_or forms index d))))
     one_fault said = record {
       whole = ap (λ a. joined a (says_values (drop (index + 1) forms) rest))
-          (sym (ap (λ o. joined (so_far values fault) (or_kind (get_or forms index d) o)) said
+          (sym (ap (λ o. joined (said_or_wrong values fault) (or_kind (get_or forms index d) o)) said
           ∙ said_bad values fault (kind_of_form (get_or forms index d)))) ∙ split;
       few = omega (arith, r.few);
     }
@@ -112,11 +113,11 @@ module _ (forms : List Form) (words : List (List ℕ)) (index : ℕ) (left : Lis
 pub all_read : (forms : List Form) (words left : List (List ℕ)) (index : ℕ) (values : List Value)
     (fault : Option LineKind)
     → IsReading forms words index left values fault → length forms ≤ index
-    → says_values forms words ≡ so_far values fault
+    → says_values forms words ≡ said_or_wrong values fault
 all_read forms words left index values fault r end =
     sym r.whole
-    ∙ ap (λ fs. joined (so_far values fault) (says_values fs left)) (none_after forms index end)
-    ∙ joined_none (so_far values fault)
+    ∙ ap (λ fs. joined (said_or_wrong values fault) (says_values fs left)) (none_after forms index end)
+    ∙ joined_none (said_or_wrong values fault)
   where
     none_after : (forms : List Form) (index : ℕ) → length forms ≤ index → drop index forms ≡ []
     none_after forms index end = grind (arith, common_steps)

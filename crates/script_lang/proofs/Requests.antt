@@ -11,12 +11,11 @@ use Rattle.volume_model.specs.declared.command.Command.{Command}
 use Rattle.script_lang.specs.declared.fault.LineKind.{LineKind}
 use Rattle.script_lang.specs.declared.form.Value.{Value}
 use Rattle.script_lang.specs.declared.form.Value.TheVariants.{Volume, Number}
-use Rattle.script_lang.specs.declared.grammar.Grammar.{Grammar}
 use Rattle.script_lang.specs.declared.line.LineRequest.{LineRequest}
 use Rattle.script_lang.specs.declared.verb.Verb.{Verb}
 use Rattle.script_lang.specs.declared.verb.Verb.TheVariants as v
-use Rattle.script_lang.specs.Commands.{commands_of, command_of, alone, write_commands, read_commands, page_by_page}
-use Rattle.script_lang.specs.Commands.{write_at, read_at, is_page, pages_of}
+use Rattle.script_lang.specs.Commands.{commands_of, command_said, alone, write_commands, read_commands, page_by_page}
+use Rattle.script_lang.specs.Commands.{write_at, read_at, is_page, count_of_pages}
 use Rattle.script_lang.specs.Forms.{says_values}
 use Rattle.script_lang.specs.Lines.{says, says_words, says_verb, commands_said, in_channel, channel_in, is_skipped}
 use Rattle.script_lang.specs.Lines.{is_printable, is_spaced, words}
@@ -28,8 +27,8 @@ either P true x y px py = px
 either P false x y px py = py
 
 -- what holds of the commands of each verb's words holds of the commands of each line
-module _ (grammar : Grammar) (Q : List Command → Type 0) (none : Q [])
-    (of_verb : (word : List ℕ) (words : List (List ℕ)) → IfOk (says_verb (verb_in grammar word) words) Q) where
+module _ (Q : List Command → Type 0) (none : Q [])
+    (of_verb : (word : List ℕ) (words : List (List ℕ)) → IfOk (says_verb (verb_in word) words) Q) where
   in_channel_has : (c : Option ℕ) (r : Result (List Command) LineKind) → IfOk r Q
       → IfOk (in_channel c r) (λ request. Q request.commands)
   in_channel_has (Some c) (Ok commands) q = q
@@ -37,13 +36,13 @@ module _ (grammar : Grammar) (Q : List Command → Type 0) (none : Q [])
   in_channel_has None (Ok commands) q = tt
   in_channel_has None (Err kind) q = tt
 
-  words_have : (words : List (List ℕ)) → IfOk (says_words grammar words) (λ request. Q request.commands)
+  words_have : (words : List (List ℕ)) → IfOk (says_words words) (λ request. Q request.commands)
   words_have [] = tt
   words_have (channel ∷ []) = tt
-  words_have (channel ∷ verb ∷ more) = in_channel_has (channel_in channel)
-      (says_verb (verb_in grammar verb) more) (of_verb verb more)
+  words_have (channel ∷ verb ∷ more) =
+      in_channel_has (channel_in channel) (says_verb (verb_in verb) more) (of_verb verb more)
 
-  pub says_has : (line : List ℕ) → IfOk (says grammar line) (λ request. Q request.commands)
+  pub says_has : (line : List ℕ) → IfOk (says line) (λ request. Q request.commands)
   says_has line =
       either (λ (r : Result LineRequest LineKind). IfOk r (λ request. Q request.commands)) (is_skipped line) _ _ none
       (either (λ (r : Result LineRequest LineKind). IfOk r (λ request. Q request.commands))
@@ -51,15 +50,15 @@ module _ (grammar : Grammar) (Q : List Command → Type 0) (none : Q [])
 
 -- one command at most, or pages alone
 abbrev pub IsSized : List Command → Type 0
-IsSized commands = (length commands ≤ 1) ⊎ (length commands ≡ pages_of commands)
+IsSized commands = (length commands ≤ 1) ⊎ (length commands ≡ count_of_pages commands)
 
 -- the pages of a first command, and of those after it
 pub pages_first : (command : Command) (commands : List Command)
-    → pages_of (command ∷ commands) ≡ 0 + cond (is_page command) 1 0 + pages_of commands
+    → count_of_pages (command ∷ commands) ≡ 0 + cond (is_page command) 1 0 + count_of_pages commands
 pages_first command commands = sum_by-append (λ (x : Command). cond (is_page x) 1 0) (command ∷ []) commands
 
 all_pages : (f : ℕ → Command) → ((i : ℕ) → is_page (f i) ≡ true) → (is : List ℕ)
-    → length (map f is) ≡ pages_of (map f is)
+    → length (map f is) ≡ count_of_pages (map f is)
 all_pages f page [] = refl
 all_pages f page (i ∷ is) =
     let one : cond {A = ℕ} (is_page (f i)) 1 0 ≡ 1 = ap (λ b. cond {A = ℕ} b 1 0) (page i) in
@@ -86,7 +85,7 @@ reads_sized _ = tt
 commands_sized : (verb : Verb) (values : List Value) → IfOk (commands_of verb values) IsSized
 commands_sized v.Write values = writes_sized values
 commands_sized v.Read values = reads_sized values
-commands_sized verb values = alone_sized (command_of verb values)
+commands_sized verb values = alone_sized (command_said verb values)
 
 module _ (Q : List Command → Type 0) where
   said_have : (verb : Verb) → ((values : List Value) → IfOk (commands_of verb values) Q)
@@ -102,9 +101,8 @@ verb_sized (Some verb) words =
     (said_have IsSized verb (commands_sized verb) (says_values (forms_of verb) words)) tt
 
 -- so are the commands of each line
-pub says_sized : (grammar : Grammar) (line : List ℕ) → IfOk (says grammar line) (λ request. IsSized request.commands)
-says_sized grammar = says_has grammar IsSized (inl (omega arith))
-    (λ word words. verb_sized (verb_in grammar word) words)
+pub says_sized : (line : List ℕ) → IfOk (says line) (λ request. IsSized request.commands)
+says_sized = says_has IsSized (inl (omega arith)) (λ word words. verb_sized (verb_in word) words)
 
 below_limit : (v limit : ℕ) (t : Bool) → nat_lt v limit ≡ t → limit ≤ 16 → IfSome (cond t (Some v) None) (λ n. n < 16)
 below_limit v limit true e few = let lt : v < limit = ltb-true v limit e in omega arith
@@ -121,21 +119,20 @@ in_channel_below (Some c) (Err kind) lt = tt
 in_channel_below None (Ok commands) lt = tt
 in_channel_below None (Err kind) lt = tt
 
-words_below : (grammar : Grammar) (words : List (List ℕ))
-    → IfOk (says_words grammar words) (λ request. request.channel < 16)
-words_below grammar [] = tt
-words_below grammar (channel ∷ []) = tt
-words_below grammar (channel ∷ verb ∷ more) =
-    in_channel_below (channel_in channel) (says_verb (verb_in grammar verb) more)
+words_below : (words : List (List ℕ)) → IfOk (says_words words) (λ request. request.channel < 16)
+words_below [] = tt
+words_below (channel ∷ []) = tt
+words_below (channel ∷ verb ∷ more) =
+    in_channel_below (channel_in channel) (says_verb (verb_in verb) more)
     (is_channel (bytes_eq (decimal (digits_value 10 channel)) channel) (digits_value 10 channel) 16 (omega arith))
 
 -- a line's channel is one of sixteen
-pub says_channel : (grammar : Grammar) (line : List ℕ) → IfOk (says grammar line) (λ request. request.channel < 16)
-says_channel grammar line =
+pub says_channel : (line : List ℕ) → IfOk (says line) (λ request. request.channel < 16)
+says_channel line =
     either (λ (r : Result LineRequest LineKind). IfOk r (λ request. request.channel < 16)) (is_skipped line) _ _
     (omega arith)
     (either (λ (r : Result LineRequest LineKind). IfOk r (λ request. request.channel < 16))
-    (is_printable line && is_spaced line) _ _ (words_below grammar (words line)) tt)
+    (is_printable line && is_spaced line) _ _ (words_below (words line)) tt)
 
 -- what holds of a request if there is one
 pub if_said : (P : LineRequest → Type 0) (r : Result LineRequest LineKind) (request : LineRequest) → r ≡ Ok request

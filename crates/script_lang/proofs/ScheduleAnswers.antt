@@ -5,8 +5,8 @@ use Rattle.std.proofs.lemmas.List.{take_more, take_all, length-take-le}
 use Rattle.script_lang.specs.declared.schedule.Actor.{Actor}
 use Rattle.script_lang.specs.declared.reading.Place.TheVariants.{Start}
 use Rattle.script_lang.specs.declared.reading.Reading.{Reading}
-use Rattle.script_lang.specs.Schedules.{IsSchedule, IsNoSchedule, GoesOn, IsFirstBadByte}
-use Rattle.script_lang.specs.Reading.{reading, ended, after_byte, HasRoom}
+use Rattle.script_lang.specs.Schedules.{IsSchedule, IsNoSchedule, BeginsSchedule, IsFirstBadByte}
+use Rattle.script_lang.specs.Reading.{reading, ended, reading_after, HasRoom}
 use Rattle.script_lang.proofs.ScheduleReads.{run, run_then, run_one, run_none, one_schedule, no_end, stopped}
 use Rattle.script_lang.proofs.ScheduleLengths.{front_length}
 use Rattle.script_lang.proofs.ScheduleTexts.{Reads, none_read}
@@ -23,7 +23,7 @@ pub begun : (text : List ℕ) (r : Reading) → r ≡ reading [] [] Start → Is
 begun text r e = subst (IsReadTo text 0) (sym e) (record { run_is = refl; reads = none_read; room = omega arith })
 
 pub one_more : (text : List ℕ) (n : ℕ) (r s : Reading) → IsReadTo text n r → n < length text
-    → after_byte r (get_or text n 0) ≡ Some s → HasRoom s → IsReadTo text (n + 1) s
+    → reading_after r (get_or text n 0) ≡ Some s → HasRoom s → IsReadTo text (n + 1) s
 one_more text n r s h lt e room =
     let b = get_or text n 0 in
     let t = take_more text n 0 lt in
@@ -35,14 +35,14 @@ one_more text n r s h lt e room =
     }
 
 nothing_follows : (text : List ℕ) (n : ℕ) (r : Reading) → IsReadTo text n r → n < length text
-    → after_byte r (get_or text n 0) ≡ None → GoesOn (take (n + 1) text) → ⊥
+    → reading_after r (get_or text n 0) ≡ None → BeginsSchedule (take (n + 1) text) → ⊥
 nothing_follows text n r h lt e =
     let b = get_or text n 0 in
     stopped (take (n + 1) text) (ap (run (reading [] [] Start)) (take_more text n 0 lt)
     ∙ run_then (take n text) (b ∷ []) (reading [] [] Start) r None h.run_is (run_none r b e))
 
 pub bad_byte : (text : List ℕ) (n : ℕ) (r : Reading) → IsReadTo text n r → n < length text
-    → after_byte r (get_or text n 0) ≡ None → IsFirstBadByte text n
+    → reading_after r (get_or text n 0) ≡ None → IsFirstBadByte text n
 bad_byte text n r h lt e = record {
   within = omega arith;
   before = goes_on (take n text) r h.room h.reads;
@@ -50,7 +50,7 @@ bad_byte text n r h lt e = record {
 }
 
 pub refused_byte : (text : List ℕ) (n : ℕ) (r : Reading) → IsReadTo text n r → n < length text
-    → after_byte r (get_or text n 0) ≡ None → IsNoSchedule text
+    → reading_after r (get_or text n 0) ≡ None → IsNoSchedule text
 refused_byte text n r h lt e steps s =
     nothing_follows text n r h lt e (record {
       rest = drop (n + 1) text;

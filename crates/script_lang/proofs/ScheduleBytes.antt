@@ -15,7 +15,7 @@ use Rattle.script_lang.specs.Schedules.{IsActor, metadata, channel, AreParts}
 use Rattle.script_lang.proofs.Numbers.{both}
 use Rattle.script_lang.proofs.ScheduleReads.{two_digits}
 use Rattle.script_lang.specs.Reading.{reading, after_start, after_actor, after_count, with_comma, ended, within_part}
-use Rattle.script_lang.specs.Reading.{after_byte, goes_on_as_number, HasRoomAt, HasRoom}
+use Rattle.script_lang.specs.Reading.{reading_after, goes_on_as_number, HasRoomAt, HasRoom}
 use Rattle.script_lang.proofs.ScheduleTexts.{Steps, some_done, none_joined, some_joined, actor_joined, IsAtStart}
 use Rattle.script_lang.proofs.ScheduleTexts.{IsAtActor, IsCount, IsAtCount, ReadsAt, Reads, when_some, which_some}
 use Rattle.script_lang.proofs.ScheduleTexts.{the_same, ended_parts}
@@ -187,7 +187,7 @@ and_then_some None s e = absurd (cc)
 and_then_some (Some steps) s e = (steps, (refl, e))
 
 -- a byte with which the reading goes on
-pub byte_read : (text : List ℕ) (r s : Reading) (b : ℕ) → HasRoom r → Reads text r → after_byte r b ≡ Some s
+pub byte_read : (text : List ℕ) (r s : Reading) (b : ℕ) → HasRoom r → Reads text r → reading_after r b ≡ Some s
     → Reads (text ++ b ∷ []) s
 byte_read text r s b room h e =
     elim (which_some (eqb b 44) (option_and_then with_comma (ended r))

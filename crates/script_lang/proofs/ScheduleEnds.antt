@@ -1,4 +1,4 @@
--- A text that was read so far is a schedule where it may end, and begins one everywhere.
+-- A text that was read is a schedule where it may end, and begins one everywhere.
 use Rattle.std.proofs.Common.{◌≡◌, ℕ, ◌+◌, ◌*◌, ◌≤◌, ◌^◌, true, leb, List, [], ◌∷◌, ◌++◌, length, Some, refl, sym}
 use Rattle.std.proofs.Common.{subst, length-append, inl, inr, arith}
 use Rattle.std.proofs.lemmas.Bool.Decides.{nat_tests}
@@ -8,7 +8,7 @@ use Rattle.script_lang.specs.declared.schedule.Actor.TheVariants.{Metadata}
 use Rattle.script_lang.specs.declared.reading.Place.{Place}
 use Rattle.script_lang.specs.declared.reading.Place.TheVariants.{Start, Named, Times}
 use Rattle.script_lang.specs.declared.reading.Reading.{Reading}
-use Rattle.script_lang.specs.Schedules.{repeated, IsSchedule, GoesOn}
+use Rattle.script_lang.specs.Schedules.{repeated, IsSchedule, BeginsSchedule}
 use Rattle.script_lang.proofs.Schedules.{length-repeated}
 use Rattle.script_lang.proofs.ScheduleReads.{count_digit}
 use Rattle.script_lang.specs.Reading.{reading, after_count, ended_at, ended, HasRoomAt, HasRoom}
@@ -37,7 +37,7 @@ schedule_read text r steps room h e = record {
 }
 
 ends_here : (text : List ℕ) (r : Reading) (steps : Steps) → HasRoom r → Reads text r → ended r ≡ Some steps
-    → GoesOn text
+    → BeginsSchedule text
 ends_here text r steps room h e = record {
   rest = [];
   steps = steps;
@@ -45,12 +45,12 @@ ends_here text r steps room h e = record {
 }
 
 ends_after : (text : List ℕ) (r : Reading) (b : ℕ) (steps : Steps) → HasRoom r → Reads (text ++ b ∷ []) r
-    → ended r ≡ Some steps → GoesOn text
+    → ended r ≡ Some steps → BeginsSchedule text
 ends_after text r b steps room h e =
     record { rest = b ∷ []; steps = steps; schedule = schedule_read (text ++ b ∷ []) r steps room h e }
 
 goes_on_at : (text : List ℕ) (done xs : Steps) (place : Place) → HasRoomAt done xs place → ReadsAt text done xs place
-    → GoesOn text
+    → BeginsSchedule text
 goes_on_at text done xs Start room h =
     let next = reading done xs (Named Metadata) in
     ends_after text next 109 (done ++ repeated 1 (xs ++ Metadata ∷ [])) room
@@ -74,6 +74,6 @@ goes_on_at text done xs (Times n) room h =
           ends_here text (reading done xs (Times n)) (done ++ repeated n xs) room h (rw least refl)
     ]
 
--- what was read so far some schedule begins with
-pub goes_on : (text : List ℕ) (r : Reading) → HasRoom r → Reads text r → GoesOn text
+-- with what was read some schedule begins
+pub goes_on : (text : List ℕ) (r : Reading) → HasRoom r → Reads text r → BeginsSchedule text
 goes_on text r room h = goes_on_at text r.schedule r.actors r.place room h

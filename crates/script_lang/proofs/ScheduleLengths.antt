@@ -4,7 +4,7 @@ use Rattle.std.proofs.Common.{mul-le-mul_right, arith}
 use Rattle.std.proofs.lemmas.Fmt.{length-decimal-le}
 use Rattle.script_lang.specs.declared.schedule.Actor.{Actor}
 use Rattle.script_lang.specs.Schedules.{IsActor, metadata, channel, AreActors, one_actor, more_actors, IsPart, once}
-use Rattle.script_lang.specs.Schedules.{times, AreParts, one_part, more_parts, GoesOn}
+use Rattle.script_lang.specs.Schedules.{times, AreParts, one_part, more_parts, BeginsSchedule}
 use Rattle.script_lang.proofs.Schedules.{length-repeated}
 
 actor_length : (text : List ℕ) (actor : Actor) → IsActor text actor → length text ≤ 2
@@ -47,7 +47,7 @@ parts_length _ _ (more_parts text other steps later h i) =
     record { some = omega (arith, n, w.some); short = omega (arith, n, m, w.short, v.short) }
 
 -- what a schedule begins with
-pub front_length : (front : List ℕ) → GoesOn front → length front < 9 * 2 ^ 16
+pub front_length : (front : List ℕ) → BeginsSchedule front → length front < 9 * 2 ^ 16
 front_length front g =
     let w = parts_length (front ++ g.rest) g.steps g.schedule.parts in
     omega (arith, length-append front g.rest, w.short, g.schedule.few)

@@ -11,9 +11,10 @@ use Rattle.script_lang.specs.declared.schedule.Actor.TheVariants.{Channel}
 use Rattle.script_lang.specs.declared.reading.Place.TheVariants.{Start, Named, Times}
 use Rattle.script_lang.specs.declared.reading.Reading.{Reading}
 use Rattle.script_lang.specs.Schedules.{repeated, IsActor, metadata, channel, AreActors, one_actor, more_actors, IsPart}
-use Rattle.script_lang.specs.Schedules.{once, times, AreParts, one_part, more_parts, IsSchedule, IsNoSchedule, GoesOn}
+use Rattle.script_lang.specs.Schedules.{once, times, AreParts, one_part, more_parts, IsSchedule, IsNoSchedule}
+use Rattle.script_lang.specs.Schedules.{BeginsSchedule}
 use Rattle.script_lang.proofs.Schedules.{length-repeated}
-use Rattle.script_lang.specs.Reading.{reading, with_comma, ended, after_byte}
+use Rattle.script_lang.specs.Reading.{reading, with_comma, ended, reading_after}
 
 abbrev Steps : Type 0
 Steps = List Actor
@@ -21,7 +22,7 @@ Steps = List Actor
 -- how a text is read on
 abbrev pub run : Reading → List ℕ → Option Reading
 run r [] = Some r
-run r (b ∷ text) = option_and_then (λ s. run s text) (after_byte r b)
+run r (b ∷ text) = option_and_then (λ s. run s text) (reading_after r b)
 
 same_some : {X : Type 0} (x y : X) → Some x ≡ Some y → x ≡ y
 same_some x y e = cc
@@ -30,7 +31,7 @@ pub run_then : (xs ys : List ℕ) (r s : Reading) (o : Option Reading) → run r
     → run r (xs ++ ys) ≡ o
 run_then [] ys r s o e f = subst (λ x. run x ys ≡ o) (sym (same_some r s e)) f
 run_then (b ∷ xs) ys r s o e f =
-    elim (after_byte r b)
+    elim (reading_after r b)
     as (λ m. option_and_then (λ x. run x xs) m ≡ Some s → option_and_then (λ x. run x (xs ++ ys)) m ≡ o) [
       | None ↦ λ e. absurd (cc)
       | Some next ↦ λ e. run_then xs ys next s o e f
@@ -39,20 +40,21 @@ run_then (b ∷ xs) ys r s o e f =
 pub run_stops : (xs ys : List ℕ) (r : Reading) → run r xs ≡ None → run r (xs ++ ys) ≡ None
 run_stops [] ys r e = absurd (cc)
 run_stops (b ∷ xs) ys r e =
-    elim (after_byte r b)
+    elim (reading_after r b)
     as (λ m. option_and_then (λ x. run x xs) m ≡ None → option_and_then (λ x. run x (xs ++ ys)) m ≡ None) [
       | None ↦ λ e. refl
       | Some next ↦ λ e. run_stops xs ys next e
     ] e
 
 -- one byte more
-pub run_one : (r s : Reading) (b : ℕ) → after_byte r b ≡ Some s → run r (b ∷ []) ≡ Some s
+pub run_one : (r s : Reading) (b : ℕ) → reading_after r b ≡ Some s → run r (b ∷ []) ≡ Some s
 run_one r s b e = ap (option_and_then (λ x. run x [])) e
 
-pub run_none : (r : Reading) (b : ℕ) → after_byte r b ≡ None → run r (b ∷ []) ≡ None
+pub run_none : (r : Reading) (b : ℕ) → reading_after r b ≡ None → run r (b ∷ []) ≡ None
 run_none r b e = ap (option_and_then (λ x. run x [])) e
 
-run_next : (xs ys : List ℕ) (b : ℕ) (r s t : Reading) (o : Option Reading) → run r xs ≡ Some s → after_byte s b ≡ Some t
+run_next : (xs ys : List ℕ) (b : ℕ) (r s t : Reading) (o : Option Reading) → run r xs ≡ Some s
+    → reading_after s b ≡ Some t
     → run t ys ≡ o → run r (xs ++ b ∷ ys) ≡ o
 run_next xs ys b r s t o e f g = run_then xs (b ∷ ys) r s o e (ap (option_and_then (λ x. run x ys)) f ∙ g)
 
@@ -70,7 +72,7 @@ two_digits n ge lt =
     ∙ ap (λ (b : ℕ). 49 ∷ b ∷ []) m
 
 start_digit : (done actors : Steps) (n : ℕ) → n < 10
-    → after_byte (reading done actors Start) (48 + n) ≡ Some (reading done actors (Named (Channel n)))
+    → reading_after (reading done actors Start) (48 + n) ≡ Some (reading done actors (Named (Channel n)))
 start_digit done actors n lt =
     let e : 48 + n - 48 ≡ n = omega arith in
     let a : eqb (48 + n) 44 ≡ false = grind (arith, nat_tests) in
@@ -80,7 +82,7 @@ start_digit done actors n lt =
     rw a (rw b (rw c (rw d (rw e refl))))
 
 second_digit : (done actors : Steps) (n : ℕ) → 10 ≤ n → n < 16
-    → after_byte (reading done actors (Named (Channel 1))) (38 + n) ≡ Some (reading done actors (Named (Channel n)))
+    → reading_after (reading done actors (Named (Channel 1))) (38 + n) ≡ Some (reading done actors (Named (Channel n)))
 second_digit done actors n ge lt =
     let e : 38 + n - 38 ≡ n = omega arith in
     let a : eqb (38 + n) 44 ≡ false = grind (arith, nat_tests) in
@@ -108,7 +110,7 @@ actor_read _ _ done before (channel n lt) =
     ]
 
 plus : (done front : Steps) (last : Actor) → length done + length front + 2 ≤ 2 ^ 16
-    → after_byte (reading done front (Named last)) 43 ≡ Some (reading done (front ++ last ∷ []) Start)
+    → reading_after (reading done front (Named last)) 43 ≡ Some (reading done (front ++ last ∷ []) Start)
 plus done front last room =
     let fits : leb (length done + length front + 2) (2 ^ 16) ≡ true = grind (arith, nat_tests) in rw fits refl
 
@@ -127,7 +129,7 @@ actors_read _ _ done (more_actors text other xs actor h i) room =
     let n = length-append xs (actor ∷ []) in
     let w = actors_read text xs done h (omega (arith, n)) in
     let m : length xs ≡ length w.front + 1 = ap length w.xs_are ∙ length-append w.front (w.last ∷ []) in
-    let joined : after_byte (reading done w.front (Named w.last)) 43 ≡ Some (reading done xs Start) =
+    let joined : reading_after (reading done w.front (Named w.last)) 43 ≡ Some (reading done xs Start) =
     plus done w.front w.last (omega (arith, n, m, room)) ∙ ap (λ ys. Some (reading done ys Start)) (sym w.xs_are) in
     record {
       front = xs;
@@ -141,7 +143,7 @@ actors_read _ _ done (more_actors text other xs actor h i) room =
 -- a digit of a count
 pub count_digit : (done xs : Steps) (k d n : ℕ) → d < 10 → k * 10 + d ≡ n → 1 ≤ n → n ≤ 2 ^ 16
     → length done + n * length xs ≤ 2 ^ 16
-    → after_byte (reading done xs (Times k)) (48 + d) ≡ Some (reading done xs (Times n))
+    → reading_after (reading done xs (Times k)) (48 + d) ≡ Some (reading done xs (Times n))
 count_digit done xs k d n lt is least most room =
     let e : k * 10 + (48 + d - 48) ≡ n = omega arith in
     let a : eqb (48 + d) 44 ≡ false = grind (arith, nat_tests) in
@@ -188,7 +190,7 @@ part_read _ _ done (times text xs n h least most) room =
     let all : length done + n * length xs ≤ 2 ^ 16 = omega (arith, length-repeated n xs, room) in
     let some : 1 * length xs ≤ n * length xs = mul-le-mul_right (length xs) least in
     let w = actors_read text xs done h (omega (arith, some, all)) in
-    let star : after_byte (reading done w.front (Named w.last)) 42 ≡ Some (reading done xs (Times 0)) =
+    let star : reading_after (reading done w.front (Named w.last)) 42 ≡ Some (reading done xs (Times 0)) =
     ap (λ ys. Some (reading done ys (Times 0))) (sym w.xs_are) in
     let counts : leb 1 n ≡ true = grind (arith, nat_tests) in
     record {
@@ -223,7 +225,7 @@ parts_read _ _ (more_parts text other steps later h i) room =
     let some = part_some other later i in
     let w = parts_read text steps h (omega (arith, n, room)) in
     let less : ltb (length steps) (2 ^ 16) ≡ true = lt-ltb _ _ (omega (arith, n, room, some)) in
-    let comma : after_byte w.at 44 ≡ Some (reading steps [] Start) =
+    let comma : reading_after w.at 44 ≡ Some (reading steps [] Start) =
     ap (option_and_then with_comma) w.ends ∙ (rw less refl) in
     let p = part_read other later steps i (omega (arith, n, room)) in
     record {
@@ -251,7 +253,7 @@ no_end text r read ends steps h =
     let no : Some steps ≡ None = sym w.ends ∙ ap ended same ∙ ends in
     absurd (cc)
 
-pub stopped : (front : List ℕ) → run (reading [] [] Start) front ≡ None → GoesOn front → ⊥
+pub stopped : (front : List ℕ) → run (reading [] [] Start) front ≡ None → BeginsSchedule front → ⊥
 stopped front none g =
     let w = is_read (front ++ g.rest) g.steps g.schedule in
     let no : Some w.at ≡ None = sym w.read ∙ run_stops front g.rest (reading [] [] Start) none in

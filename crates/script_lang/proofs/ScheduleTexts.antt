@@ -1,4 +1,4 @@
--- What a text says that was read so far.
+-- What the text that was read says.
 use Rattle.std.proofs.Common.{◌≡◌, ℕ, ◌≤◌, ◌⊎◌, Bool, true, false, cond, leb, List, [], ◌∷◌, ◌++◌, Option, Some, None}
 use Rattle.std.proofs.Common.{refl, sym, ap, ◌∙◌, subst, append_assoc, decimal, inl, inr}
 use Rattle.std.proofs.lemmas.Bool.{false≢true}

@@ -7,11 +7,10 @@ use Rattle.std.proofs.lemmas.Bool.{le-leb}
 use Rattle.std.proofs.lemmas.Bool.Decides.{nat_tests}
 use Rattle.std.proofs.lemmas.List.Sums.{sum_by-append}
 use Rattle.script_lang.specs.declared.fault.LineKind.{LineKind}
-use Rattle.script_lang.specs.declared.grammar.Grammar.{Grammar}
 use Rattle.script_lang.specs.declared.line.LineRequest.{LineRequest}
-use Rattle.script_lang.specs.Commands.{pages_of}
+use Rattle.script_lang.specs.Commands.{count_of_pages}
 use Rattle.script_lang.specs.Lines.{says}
-use Rattle.script_lang.specs.Script.{lines, all_ok, pages_of_requests, within_pages, requests_in, script_of, reads_as}
+use Rattle.script_lang.specs.Script.{lines, all_ok, pages_of_requests, within_pages, requests_in, script_of, reads}
 
 mapped_none : (o : Option (List LineRequest)) → o ≡ option_map (λ more. more) o
 mapped_none None = refl
@@ -52,15 +51,15 @@ pub stay_many : (requests : List LineRequest) (o : Option (List LineRequest)) �
     → option_and_then within_pages (option_map (λ more. requests ++ more) o) ≡ None
 stay_many requests None many = refl
 stay_many requests (Some more) many = many_pages (requests ++ more)
-    (omega (arith, many, sum_by-append (λ (q : LineRequest). pages_of q.commands) requests more))
+    (omega (arith, many, sum_by-append (λ (q : LineRequest). count_of_pages q.commands) requests more))
 
 -- within both limits, lines that all ask for something ask for this
-pub in_few_lines : (grammar : Grammar) (ls : List (List ℕ)) (requests : List LineRequest) → length ls ≤ 2 ^ 16
-    → map (says grammar) ls ≡ map Ok requests → pages_of_requests requests ≤ 2 ^ 16
-    → requests_in grammar ls ≡ Some requests
+pub in_few_lines : (ls : List (List ℕ)) (requests : List LineRequest) → length ls ≤ 2 ^ 16
+    → map says ls ≡ map Ok requests → pages_of_requests requests ≤ 2 ^ 16
+    → requests_in ls ≡ Some requests
 unfolding requests_in
-in_few_lines grammar ls requests few good within =
-    ap (λ b. cond b (option_and_then within_pages (all_ok (map (says grammar) ls))) None)
+in_few_lines ls requests few good within =
+    ap (λ b. cond b (option_and_then within_pages (all_ok (map says ls))) None)
     (le-leb (length ls) (2 ^ 16) few)
     ∙ ap (λ rs. option_and_then within_pages (all_ok rs)) good
     ∙ ap (option_and_then within_pages) (just_oks requests)
@@ -71,18 +70,17 @@ none_chosen true o e = e
 none_chosen false o e = refl
 
 -- lines of which one asks for nothing, or that ask for too many pages, are no script
-pub none_asked : (grammar : Grammar) (ls : List (List ℕ))
-    → option_and_then within_pages (all_ok (map (says grammar) ls)) ≡ None → requests_in grammar ls ≡ None
+pub none_asked : (ls : List (List ℕ))
+    → option_and_then within_pages (all_ok (map says ls)) ≡ None → requests_in ls ≡ None
 unfolding requests_in
-none_asked grammar ls e = none_chosen (nat_le (length ls) (2 ^ 16)) _ e
+none_asked ls e = none_chosen (nat_le (length ls) (2 ^ 16)) _ e
 
 -- too many lines are no script
-pub in_many_lines : (grammar : Grammar) (ls : List (List ℕ)) → 2 ^ 16 < length ls → requests_in grammar ls ≡ None
+pub in_many_lines : (ls : List (List ℕ)) → 2 ^ 16 < length ls → requests_in ls ≡ None
 unfolding requests_in
-in_many_lines grammar ls many = ap (λ b. cond b (option_and_then within_pages (all_ok (map (says grammar) ls))) None)
+in_many_lines ls many = ap (λ b. cond b (option_and_then within_pages (all_ok (map says ls))) None)
     (not_le (length ls) (2 ^ 16) many)
 
 -- a text is no script if its lines are none
-pub no_script : (grammar : Grammar) (text : List ℕ) → requests_in grammar (lines text) ≡ None
-    → reads_as grammar text ≡ None
-no_script grammar text e = none_chosen (nat_le (length text) (2 ^ 20)) _ (ap (option_map script_of) e)
+pub no_script : (text : List ℕ) → requests_in (lines text) ≡ None → reads text ≡ None
+no_script text e = none_chosen (nat_le (length text) (2 ^ 20)) _ (ap (option_map script_of) e)

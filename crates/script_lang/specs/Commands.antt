@@ -87,11 +87,11 @@ command_of_name verb name (Number slots ∷ Thick thick ∷ Uuid uuid ∷ []) = 
 command_of_name verb name _ = None
 
 -- the command of a verb that is one command
-abbrev pub command_of : Verb → List Value → Option Command
-command_of verb [] = plain verb
-command_of verb (Volume volume ∷ values) = command_on verb volume values
-command_of verb (Name name ∷ values) = command_of_name verb name values
-command_of verb _ = None
+abbrev pub command_said : Verb → List Value → Option Command
+command_said verb [] = plain verb
+command_said verb (Volume volume ∷ values) = command_on verb volume values
+command_said verb (Name name ∷ values) = command_of_name verb name values
+command_said verb _ = None
 
 abbrev pub alone : Option Command → Result (List Command) LineKind
 alone (Some command) = Ok (command ∷ [])
@@ -112,7 +112,7 @@ read_commands _ = Err kind.Form
 abbrev pub commands_of : Verb → List Value → Result (List Command) LineKind
 commands_of v.Write values = write_commands values
 commands_of v.Read values = read_commands values
-commands_of verb values = alone (command_of verb values)
+commands_of verb values = alone (command_said verb values)
 
 -- a command that reads or writes a page
 abbrev pub is_page : Command → Bool
@@ -121,5 +121,5 @@ is_page (c.Read volume page) = true
 is_page _ = false
 
 -- how many pages commands read and write
-abbrev pub pages_of : List Command → ℕ
-pages_of commands = count_by is_page commands
+abbrev pub count_of_pages : List Command → ℕ
+count_of_pages commands = count_by is_page commands

@@ -81,7 +81,7 @@ onto (Some value) more = value ∷ more
 abbrev pub listed : Option Value → Option Value → Option Value → Option Value → List Value
 listed first second third fourth = onto first (onto second (onto third (onto fourth [])))
 
--- what words said so far
-abbrev pub so_far : List Value → Option LineKind → Result (List Value) LineKind
-so_far values None = Ok values
-so_far values (Some kind) = Err kind
+-- what words said, or what is wrong with one of them
+abbrev pub said_or_wrong : List Value → Option LineKind → Result (List Value) LineKind
+said_or_wrong values None = Ok values
+said_or_wrong values (Some kind) = Err kind

@@ -49,16 +49,16 @@ abbrev pub text_of : GeneratedLine → List ℕ
 text_of line = decimal line.channel ++ words_of line.command
 
 -- the command that a line is
-abbrev pub command_of : GeneratedCommand → Command
-command_of (Create volume) = c.Create (volume_name volume) 8 false None
-command_of (Write volume page word) = c.Write (Named (volume_name volume)) page (Fill word)
-command_of (Read volume page) = c.Read (Named (volume_name volume)) page
-command_of Flush = c.Flush
-command_of (Put volume value) = c.Put (Named (volume_name volume)) (codes "k") (decimal value)
+abbrev pub generated_command : GeneratedCommand → Command
+generated_command (Create volume) = c.Create (volume_name volume) 8 false None
+generated_command (Write volume page word) = c.Write (Named (volume_name volume)) page (Fill word)
+generated_command (Read volume page) = c.Read (Named (volume_name volume)) page
+generated_command Flush = c.Flush
+generated_command (Put volume value) = c.Put (Named (volume_name volume)) (codes "k") (decimal value)
 
 -- what a line asks for
 abbrev pub request_of : GeneratedLine → LineRequest
-request_of line = record { channel = line.channel; commands = command_of line.command ∷ [] }
+request_of line = record { channel = line.channel; commands = generated_command line.command ∷ [] }
 
 -- the text of the first lines, each with its LF
 abbrev pub generated_lines : ℕ → ℕ → List ℕ

@@ -1,6 +1,5 @@
 pub mod Parts
 pub mod Words
-pub mod Grammar
 pub mod Verbs
 pub mod Forms
 pub mod Commands
@@ -11,4 +10,3 @@ pub mod Generator
 pub mod Generated
 pub mod Schedules
 pub mod Reading
-pub mod Served

@@ -6,7 +6,6 @@ use Rattle.volume_model.specs.declared.command.Command.{Command}
 use Rattle.script_lang.specs.declared.fault.LineKind.{LineKind}
 use Rattle.script_lang.specs.declared.fault.LineKind.TheVariants as kind
 use Rattle.script_lang.specs.declared.form.Value.{Value}
-use Rattle.script_lang.specs.declared.grammar.Grammar.{Grammar}
 use Rattle.script_lang.specs.declared.line.LineRequest.{LineRequest}
 use Rattle.script_lang.specs.declared.verb.Verb.{Verb}
 use Rattle.script_lang.specs.Commands.{commands_of}
@@ -56,16 +55,15 @@ abbrev pub channel_in : List ℕ → Option ℕ
 channel_in word = number_below 16 word
 
 -- a channel, a verb and the words of this verb
-abbrev pub says_words : Grammar → List (List ℕ) → Result LineRequest LineKind
-says_words grammar (channel ∷ verb ∷ words) =
-    in_channel (channel_in channel) (says_verb (verb_in grammar verb) words)
-says_words grammar _ = Err kind.Form
+abbrev pub says_words : List (List ℕ) → Result LineRequest LineKind
+says_words (channel ∷ verb ∷ words) = in_channel (channel_in channel) (says_verb (verb_in verb) words)
+says_words _ = Err kind.Form
 
 abbrev pub no_request : LineRequest
 no_request = record { channel = 0; commands = [] }
 
 -- what a line asks for, or what is wrong with it: the first word at fault, but `Form` before all others
-abbrev pub says : Grammar → List ℕ → Result LineRequest LineKind
-says grammar line =
+abbrev pub says : List ℕ → Result LineRequest LineKind
+says line =
     if is_skipped line then Ok no_request
-    else (if is_printable line && is_spaced line then says_words grammar (words line) else Err kind.Form)
+    else (if is_printable line && is_spaced line then says_words (words line) else Err kind.Form)

@@ -47,7 +47,7 @@ with_count schedule actors n =
 abbrev pub after_count : List Actor → List Actor → ℕ → ℕ → Option Reading
 after_count schedule actors n b = if is_digit b then with_count schedule actors (n * 10 + (b - 48)) else None
 
--- the steps so far, where the text may end here
+-- the steps of what was read, where the text may end here
 abbrev pub ended_at : List Actor → List Actor → Place → Option (List Actor)
 ended_at schedule actors Start = None
 ended_at schedule actors (Named actor) = Some (schedule ++ repeated 1 (actors ++ actor ∷ []))
@@ -67,8 +67,8 @@ within_part schedule actors (Named actor) b = after_actor schedule actors actor 
 within_part schedule actors (Times n) b = after_count schedule actors n b
 
 -- how the reading goes on after a byte; none where no schedule goes on so
-abbrev pub after_byte : Reading → ℕ → Option Reading
-after_byte r b =
+abbrev pub reading_after : Reading → ℕ → Option Reading
+reading_after r b =
     if b == 44 then option_and_then with_comma (ended r) else within_part r.schedule r.actors r.place b
 
 -- what was read leaves room for what must follow

@@ -51,7 +51,7 @@ abbrev pub IsNoSchedule : List ℕ → Type 0
 IsNoSchedule text = (steps : List Actor) → IsSchedule text steps → ⊥
 
 -- some schedule begins so
-pub record GoesOn (front : List ℕ) : Type 0 where
+pub record BeginsSchedule (front : List ℕ) : Type 0 where
   pub rest : List ℕ
   pub steps : List Actor
   pub schedule : IsSchedule (front ++ rest) steps
@@ -59,8 +59,8 @@ pub record GoesOn (front : List ℕ) : Type 0 where
 -- the place, from 0, of the first byte at which no schedule goes on; the text's length where the text ends too early
 pub record IsFirstBadByte (text : List ℕ) (at : ℕ) : Type 0 where
   pub within : at ≤ length text
-  pub before : GoesOn (take at text)
-  pub stops : (GoesOn (take (at + 1) text) → ⊥) ⊎ ((at ≡ length text) × IsNoSchedule text)
+  pub before : BeginsSchedule (take at text)
+  pub stops : (BeginsSchedule (take (at + 1) text) → ⊥) ⊎ ((at ≡ length text) × IsNoSchedule text)
 
 -- why a text isn't taken
 abbrev pub WhyNoSchedule : List ℕ → ScheduleFault → Type 0

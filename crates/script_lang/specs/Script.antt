@@ -8,10 +8,8 @@ use Rattle.script_lang.specs.declared.fault.LineKind.{LineKind}
 use Rattle.script_lang.specs.declared.fault.LineKind.TheVariants as kind
 use Rattle.script_lang.specs.declared.fault.ScriptFault.{ScriptFault}
 use Rattle.script_lang.specs.declared.fault.ScriptFault.TheVariants as fault
-use Rattle.script_lang.specs.declared.grammar.Grammar.{Grammar}
-use Rattle.script_lang.specs.declared.grammar.Grammar.TheVariants as g
 use Rattle.script_lang.specs.declared.line.LineRequest.{LineRequest}
-use Rattle.script_lang.specs.Commands.{pages_of}
+use Rattle.script_lang.specs.Commands.{count_of_pages}
 use Rattle.script_lang.specs.Lines.{says}
 use Rattle.script_lang.specs.Parts.{parts}
 
@@ -31,15 +29,15 @@ all_ok (Ok x ∷ xs) = option_map (λ ys. x ∷ ys) (all_ok xs)
 
 -- how many pages requests read and write
 abbrev pub pages_of_requests : List LineRequest → ℕ
-pages_of_requests requests = sum_by (λ request. pages_of request.commands) requests
+pages_of_requests requests = sum_by (λ request. count_of_pages request.commands) requests
 
 abbrev pub within_pages : List LineRequest → Option (List LineRequest)
 within_pages requests = if nat_le (pages_of_requests requests) (2 ^ 16) then Some requests else None
 
 -- what lines ask for: at most 65,536 lines, which together read and write at most 65,536 pages
-unfoldable pub requests_in : Grammar → List (List ℕ) → Option (List LineRequest)
-requests_in grammar lines =
-    if nat_le (length lines) (2 ^ 16) then option_and_then within_pages (all_ok (map (says grammar) lines)) else None
+unfoldable pub requests_in : List (List ℕ) → Option (List LineRequest)
+requests_in lines =
+    if nat_le (length lines) (2 ^ 16) then option_and_then within_pages (all_ok (map says lines)) else None
 
 -- a command at the end of its channel's
 abbrev pub with_command : ℕ → List (List Command) → Command → List (List Command)
@@ -54,43 +52,38 @@ abbrev pub script_of : List LineRequest → List (List Command)
 script_of requests = fold with_request (replicate 16 []) requests
 
 -- the script of a text of at most 1,048,576 bytes
-abbrev pub reads_as : Grammar → List ℕ → Option (List (List Command))
-reads_as grammar text =
-    if nat_le (length text) (2 ^ 20) then option_map script_of (requests_in grammar (lines text)) else None
+abbrev pub reads : List ℕ → Option (List (List Command))
+reads text = if nat_le (length text) (2 ^ 20) then option_map script_of (requests_in (lines text)) else None
 
 -- what is wrong with a line after so many pages: it asks for nothing, or for a page too many
 abbrev pub wrong_after : ℕ → Result LineRequest LineKind → Option LineKind
 wrong_after pages (Err kind) = Some kind
-wrong_after pages (Ok request) = if nat_lt (2 ^ 16) (pages + pages_of request.commands) then Some kind.Limit else None
+wrong_after pages (Ok request) =
+    if nat_lt (2 ^ 16) (pages + count_of_pages request.commands) then Some kind.Limit else None
 
 -- what is wrong with the line of this number, from 1, after so many pages: one too many whatever it holds
-abbrev pub wrong_on : Grammar → ℕ → ℕ → List ℕ → Option LineKind
-wrong_on grammar number pages line =
-    if nat_lt (2 ^ 16) number then Some kind.Limit else wrong_after pages (says grammar line)
+abbrev pub wrong_on : ℕ → ℕ → List ℕ → Option LineKind
+wrong_on number pages line = if nat_lt (2 ^ 16) number then Some kind.Limit else wrong_after pages (says line)
 
 -- the line of this number, from 1, is the first outside the grammar or over a limit, and this is wrong with it
-pub record IsFirstBad (grammar : Grammar) (text : List ℕ) (number : ℕ) (kind : LineKind) : Type 0 where
+pub record IsFirstBad (text : List ℕ) (number : ℕ) (kind : LineKind) : Type 0 where
   pub before : List (List ℕ)
   pub requests : List LineRequest
   pub line : List ℕ
   pub after : List (List ℕ)
   pub small : length text ≤ 2 ^ 20
   pub lines_are : lines text ≡ before ++ line ∷ after
-  pub good : requests_in grammar before ≡ Some requests
-  pub bad : wrong_on grammar number (pages_of_requests requests) line ≡ Some kind
+  pub good : requests_in before ≡ Some requests
+  pub bad : wrong_on number (pages_of_requests requests) line ≡ Some kind
   pub number_is : number ≡ length before + 1
 
 -- why a text isn't taken
-abbrev pub Why : Grammar → List ℕ → ScriptFault → Type 0
-Why grammar text (fault.BadLine line kind) = IsFirstBad grammar text line kind
-Why grammar text fault.TooBig = 2 ^ 20 < length text
-Why grammar text fault.Memory = Unit {0}
+abbrev pub Why : List ℕ → ScriptFault → Type 0
+Why text (fault.BadLine line kind) = IsFirstBad text line kind
+Why text fault.TooBig = 2 ^ 20 < length text
+Why text fault.Memory = Unit {0}
 
 -- a refused text is no script
-abbrev pub RefusesText : Grammar → List ℕ → ScriptFault → Type 0
-RefusesText grammar text fault.Memory = Unit {0}
-RefusesText grammar text _ = reads_as grammar text ≡ None
-
--- the script that the program serves
-abbrev pub reads : List ℕ → Option (List (List Command))
-reads text = reads_as g.Served text
+abbrev pub RefusesText : List ℕ → ScriptFault → Type 0
+RefusesText text fault.Memory = Unit {0}
+RefusesText text _ = reads text ≡ None

@@ -4,10 +4,8 @@ use Rattle.std.specs.List.{find}
 use Rattle.std.specs.Str.{bytes_eq}
 use Rattle.script_lang.specs.declared.form.Form.{Form}
 use Rattle.script_lang.specs.declared.form.Form.TheVariants as form
-use Rattle.script_lang.specs.declared.grammar.Grammar.{Grammar}
 use Rattle.script_lang.specs.declared.verb.Verb.{Verb}
 use Rattle.script_lang.specs.declared.verb.Verb.TheVariants as v
-use Rattle.script_lang.specs.Grammar.{serves}
 
 abbrev pub name_of : Verb → List ℕ
 name_of v.Create = codes "create"
@@ -36,12 +34,12 @@ verbs =
     v.Create ∷ v.Write ∷ v.Read ∷ v.Flush ∷ v.SetX ∷ v.DelX ∷ v.GetX ∷ v.Put ∷ v.Sync ∷ v.Resize
     ∷ v.Snapshot ∷ v.Clone ∷ v.Inflate ∷ v.Decouple ∷ v.Delete ∷ v.Rename ∷ v.ReadOnly ∷ v.Info ∷ v.List ∷ v.Df ∷ []
 
-abbrev pub is_verb : Grammar → List ℕ → Verb → Bool
-is_verb grammar word verb = bytes_eq (name_of verb) word && serves grammar verb
+abbrev pub is_verb : List ℕ → Verb → Bool
+is_verb word verb = bytes_eq (name_of verb) word
 
 -- the verb that a word is
-unfoldable pub verb_in : Grammar → List ℕ → Option Verb
-verb_in grammar word = find (is_verb grammar word) verbs
+unfoldable pub verb_in : List ℕ → Option Verb
+verb_in word = find (is_verb word) verbs
 
 abbrev pub forms_of : Verb → List Form
 forms_of v.Create = form.Name ∷ form.Number ∷ form.Thickness ∷ form.Uuid ∷ []

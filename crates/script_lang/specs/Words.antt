@@ -35,13 +35,13 @@ abbrev pub name_in : List ℕ → Option (List ℕ)
 name_in word = if is_name word then Some word else None
 
 -- clusters are claimed as they are written
-abbrev pub is_thin : List ℕ → Bool
-is_thin word = bytes_eq word (codes "thin")
+abbrev pub says_thin : List ℕ → Bool
+says_thin word = bytes_eq word (codes "thin")
 
 -- whether all clusters are claimed at once
 abbrev pub thickness_in : List ℕ → Option Bool
 thickness_in word =
-    if is_thin word then Some false
+    if says_thin word then Some false
     else (if bytes_eq word (codes "thick") then Some true else None)
 
 -- bytes that can be seen, from 0x21 to 0x7E

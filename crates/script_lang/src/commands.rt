@@ -167,7 +167,7 @@ fn command(
     third: Option<Value>,
     fourth: Option<Value>,
 ) -> Option<Command>
-    ensures { result ≡ said.command_of verb (listed first second third fourth) }
+    ensures { result ≡ said.command_said verb (listed first second third fourth) }
 {
     match first {
         None => plain(verb),

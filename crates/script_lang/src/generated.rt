@@ -120,7 +120,7 @@ impl GeneratedCommand {
     /// The command itself.
     pub fn command(self, alloc: Global) -> Result<Command, Memory>
         requires { said.AreDrawn self }
-        ensures { IfOk result (λ command. command ≡ said.command_of self) }
+        ensures { IfOk result (λ command. command ≡ said.generated_command self) }
     {
         Ok(match self {
             GeneratedCommand::Create { volume } => Command::Create {

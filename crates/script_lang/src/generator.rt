@@ -1,15 +1,11 @@
 //! Generated scripts: their draws, and their lines one by one.
 
 ghost use Rattle.std.specs.Prelude.{◌≡◌, ◌+◌, ◌-◌, ◌*◌, ◌/◌, ◌%◌, ◌<◌, ◌≤◌, ◌^◌, ◌++◌, codes, length, Some, OnOk, IfOk};
-ghost use Rattle.std.specs.Prelude.{ℕ, [], slice_index_or};
-ghost use Rattle.std.specs.List.{All};
 ghost use Rattle.std.specs.Option.{option_map};
 ghost use Rattle.volume_model.specs.Scripts.{commands_in};
-ghost use Rattle.script_lang.specs.declared.grammar.Grammar.TheVariants.{Whole};
 ghost use Rattle.script_lang.specs.Generated as said;
 ghost use Rattle.script_lang.specs.Generator as draws;
-ghost use Rattle.script_lang.specs.Served.{IsServed};
-ghost use Rattle.script_lang.specs.Script.{lines, reads_as, requests_in, script_of, with_request};
+ghost use Rattle.script_lang.specs.Script.{lines, reads, requests_in, script_of, with_request};
 
 use crate::generated::{GeneratedCommand, GeneratedLine};
 use out_of_memory::Memory;
@@ -187,13 +183,13 @@ pub fn generate_line(number: u32, size: u32, line: u32, into: &mut Vec<u8>) -> R
 }
 
 /// The whole text of the script of a number: four lines that make volumes, then `size` drawn ones. They are lines of
-/// the whole grammar, and within its limits on lines and pages; the text may have more bytes than a script may have.
+/// the grammar, and within its limits on lines and pages; the text may have more bytes than a script may have.
 pub fn generate_text(alloc: Global, number: u32, size: u32) -> Result<Vec<u8>, Memory>
     requires number { number < 2 ^ 31 }
     requires size { size ≤ 65000 }
     ensures text { IfOk result (λ text. text.items ≡ said.generated number size) }
     ensures grammar { IfOk result
-        (λ text. requests_in Whole (lines text.items) ≡ Some (said.generated_requests number (size + 4))) }
+        (λ text. requests_in (lines text.items) ≡ Some (said.generated_requests number (size + 4))) }
     ensures short { IfOk result (λ text. length text.items ≤ 22 * (size + 4)) }
 {
     let mut text = Vec::new(alloc);
@@ -204,17 +200,16 @@ pub fn generate_text(alloc: Global, number: u32, size: u32) -> Result<Vec<u8>, M
     Ok(text)
 }
 
-/// The script of a number: the commands of the lines of its text. Each of these lines is of the whole grammar, so
-/// `read_script` reads this script in the text, unless the text is too long for it. The program serves all of them.
+/// The script of a number: the commands of the lines of its text. Each of these lines is of the grammar, so `parse`
+/// reads this script in the text, unless the text is too long for it.
 pub fn generate(alloc: Global, number: u32, size: u32) -> Result<Script, Memory>
     requires number { number < 2 ^ 31 }
     requires size { size ≤ 65000 }
     ensures script { IfOk result (λ script. script ≡ script_of (said.generated_requests number (size + 4))) }
     ensures lines { IfOk result
-        (λ script. option_map script_of (requests_in Whole (lines (said.generated number size))) ≡ Some script) }
+        (λ script. option_map script_of (requests_in (lines (said.generated number size))) ≡ Some script) }
     ensures read { IfOk result (λ script. length (said.generated number size) ≤ 2 ^ 20
-        → reads_as Whole (said.generated number size) ≡ Some script) }
-    ensures all_served { IfOk result (λ script. (channel : ℕ) → All IsServed (slice_index_or script channel [])) }
+        → reads (said.generated number size) ≡ Some script) }
 {
     let mut script = Script::new(alloc);
     let mut generator = Generator::new(number);

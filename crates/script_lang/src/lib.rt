@@ -6,7 +6,6 @@ mod fault;
 mod form;
 mod generated;
 mod generator;
-mod grammar;
 mod line;
 mod page_commands;
 mod parsing;
@@ -19,8 +18,7 @@ mod words;
 
 pub use fault::{LineKind, ScriptFault};
 pub use generator::{Generator, generate, generate_line, generate_text};
-pub use grammar::Grammar;
-pub use parsing::{parse, read_script};
+pub use parsing::parse;
 pub use reading::parse_schedule;
 pub use schedule::{Actor, Part, Schedule, ScheduleFault};
 pub use words::number_below;

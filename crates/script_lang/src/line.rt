@@ -11,7 +11,6 @@ ghost use Rattle.script_lang.specs.Words.{number_below as number_said};
 
 use crate::commands::commands;
 use crate::fault::{LineFault, LineKind};
-use crate::grammar::Grammar;
 use crate::parts::TextParts;
 use crate::values::{read_values, worse};
 use crate::verb::Verb;
@@ -68,14 +67,13 @@ fn channel(word: &[u8]) -> Option<u8>
 /// The commands of a verb's word and the words after it.
 fn commands_in(
     alloc: Global,
-    grammar: Grammar,
     word: &[u8],
     words: TextParts<'_>,
 ) -> Result<ListOf<Command>, LineFault>
-    ensures { AnswersAsSaid (says_verb (verb_in grammar word.now)
+    ensures { AnswersAsSaid (says_verb (verb_in word.now)
         (parts words.entry.separator (option_copied words.entry.rest))) result }
 {
-    let Some(verb) = Verb::of(grammar, word) else {
+    let Some(verb) = Verb::of(word) else {
         return Err(LineFault::Bad(LineKind::Verb));
     };
     if !verb.takes(words.count()) {
@@ -86,8 +84,8 @@ fn commands_in(
 }
 
 /// What a line asks for, or what is wrong with it: the first word at fault, but `Form` before all others.
-pub fn read_line(alloc: Global, grammar: Grammar, line: &[u8]) -> Result<LineRequest, LineFault>
-    ensures { AnswersAsSaid (says grammar line.now) result }
+pub fn read_line(alloc: Global, line: &[u8]) -> Result<LineRequest, LineFault>
+    ensures { AnswersAsSaid (says line.now) result }
 {
     if is_skipped(line) {
         return Ok(LineRequest {
@@ -106,7 +104,7 @@ pub fn read_line(alloc: Global, grammar: Grammar, line: &[u8]) -> Result<LineReq
         return Err(LineFault::Bad(LineKind::Form));
     };
     let channel = channel(first);
-    match commands_in(alloc, grammar, verb, words) {
+    match commands_in(alloc, verb, words) {
         Ok(commands) => match channel {
             Some(channel) => Ok(LineRequest { channel, commands }),
             None => Err(LineFault::Bad(LineKind::Channel)),

@@ -1,18 +1,13 @@
 //! Reading a script from its text.
 
-ghost use Rattle.std.specs.Prelude.{◌≡◌, ℕ, ◌≤◌, ◌<◌, ◌+◌, ◌^◌, [], length, slice_index_or, fold, Some, IfOk, IfErr};
-ghost use Rattle.std.specs.Prelude.{OnOk, OnErr};
-ghost use Rattle.std.specs.List.{All};
+ghost use Rattle.std.specs.Prelude.{◌≡◌, ◌≤◌, ◌<◌, ◌+◌, ◌^◌, length, fold, Some, IfOk, IfErr, OnOk, OnErr};
 ghost use Rattle.std.specs.Option.{option_copied};
 ghost use Rattle.volume_model.specs.Scripts.{commands_in};
-ghost use Rattle.script_lang.specs.Served.{IsServed};
-ghost use Rattle.script_lang.specs.declared.grammar.Grammar.TheVariants.{Served};
-ghost use Rattle.script_lang.specs.Commands.{pages_of, is_page as page_said};
+ghost use Rattle.script_lang.specs.Commands.{count_of_pages, is_page as page_said};
 ghost use Rattle.script_lang.specs.Parts.{parts, size_left};
-ghost use Rattle.script_lang.specs.Script.{lines as lines_said, reads, reads_as, with_request, Why, RefusesText};
+ghost use Rattle.script_lang.specs.Script.{lines as lines_said, reads, with_request, Why, RefusesText};
 
 use crate::fault::{LineFault, LineKind, ScriptFault};
-use crate::grammar::Grammar;
 use crate::line::{LineRequest, read_line};
 use crate::parts::TextParts;
 use out_of_memory::Memory;
@@ -52,7 +47,7 @@ fn is_page(command: &Command) -> bool
 
 /// How many pages commands read and write.
 fn pages_of(commands: &[Command]) -> usize
-    ensures { result ≡ pages_of commands.now }
+    ensures { result ≡ count_of_pages commands.now }
 {
     let mut pages = 0;
     for command in commands {
@@ -78,15 +73,17 @@ fn push_request(alloc: Global, script: &mut Script, request: LineRequest) -> Res
     Ok(())
 }
 
-/// The script of a text, read by a grammar; the clauses of `parse` say what is what.
-pub fn read_script(alloc: Global, grammar: Grammar, text: &[u8]) -> Result<Script, ScriptFault>
-    ensures found { IfOk result (λ script. reads_as grammar text.now ≡ Some script) }
-    ensures served { IfOk result
-        (λ script. grammar ≡ Served → (channel : ℕ) → All IsServed (slice_index_or script channel [])) }
+/// The script of a text of at most 1,048,576 bytes, on at most 65,536 lines, which reads and writes at most 65,536
+/// pages. Lines end with LF, the last may lack it. A line that is empty or begins with `#` asks for nothing; another is
+/// words with one space between any two: a channel, a verb and the verb's words.
+///
+/// `BadLine` names the first line that is outside the grammar, or with which a limit is passed (`Limit`).
+pub fn parse(alloc: Global, text: &[u8]) -> Result<Script, ScriptFault>
+    ensures found { IfOk result (λ script. reads text.now ≡ Some script) }
     ensures few { IfOk result (λ script. commands_in script ≤ 131071) }
     ensures within { IfOk result (λ script. length text.now ≤ 2 ^ 20) }
-    ensures refused { IfErr result (RefusesText grammar text.now) }
-    ensures why { IfErr result (Why grammar text.now) }
+    ensures refused { IfErr result (RefusesText text.now) }
+    ensures why { IfErr result (Why text.now) }
 {
     if text.len() > MAX_BYTES {
         return Err(ScriptFault::TooBig);
@@ -103,7 +100,7 @@ pub fn read_script(alloc: Global, grammar: Grammar, text: &[u8]) -> Result<Scrip
                 kind: LineKind::Limit,
             });
         }
-        let request = match read_line(alloc, grammar, line) {
+        let request = match read_line(alloc, line) {
             Ok(request) => request,
             Err(LineFault::Bad(kind)) => return Err(ScriptFault::BadLine { line: number, kind }),
             Err(LineFault::Memory) => return Err(ScriptFault::Memory),
@@ -119,21 +116,4 @@ pub fn read_script(alloc: Global, grammar: Grammar, text: &[u8]) -> Result<Scrip
         push_request(alloc, &mut script, request)?;
     }
     Ok(script)
-}
-
-/// The script of a text of at most 1,048,576 bytes, on at most 65,536 lines, which reads and writes at most 65,536
-/// pages. Lines end with LF, the last may lack it. A line that is empty or begins with `#` asks for nothing; another is
-/// words with one space between any two: a channel, a verb and the verb's words. Read is what the program serves of the
-/// grammar so far.
-///
-/// `BadLine` names the first line that is outside the grammar, or with which a limit is passed (`Limit`).
-pub fn parse(alloc: Global, text: &[u8]) -> Result<Script, ScriptFault>
-    ensures found { IfOk result (λ script. reads text.now ≡ Some script) }
-    ensures served { IfOk result (λ script. (channel : ℕ) → All IsServed (slice_index_or script channel [])) }
-    ensures few { IfOk result (λ script. commands_in script ≤ 131071) }
-    ensures within { IfOk result (λ script. length text.now ≤ 2 ^ 20) }
-    ensures refused { IfErr result (RefusesText Served text.now) }
-    ensures why { IfErr result (Why Served text.now) }
-{
-    read_script(alloc, Grammar::Served, text)
 }

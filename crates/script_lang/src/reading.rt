@@ -5,7 +5,7 @@ ghost use Rattle.std.specs.Prelude.{Option, Some, None, IfOk, IfErr, Result, Ok,
 ghost use Rattle.script_lang.specs.declared.schedule.Actor.{Actor};
 ghost use Rattle.script_lang.specs.Reading.{reading, fits as fits_said, goes_on_as_number as number_said, after_start};
 ghost use Rattle.script_lang.specs.Reading.{after_actor, with_count, after_count, ended_at, ended, with_comma};
-ghost use Rattle.script_lang.specs.Reading.{within_part, after_byte, HasRoomAt, HasRoom, ReadsOn, ReadsToEnd};
+ghost use Rattle.script_lang.specs.Reading.{within_part, reading_after, HasRoomAt, HasRoom, ReadsOn, ReadsToEnd};
 ghost use Rattle.script_lang.specs.Schedules.{IsSchedule, RefusesSchedule, WhyNoSchedule};
 
 use crate::schedule::{Actor, Part, Schedule, ScheduleFault};
@@ -16,7 +16,7 @@ use volume_model::ListOf;
 /// The most steps that a schedule may have.
 const MAX_STEPS: u32 = 1 << 16;
 
-/// What was read last within a part: nothing of the next actor, an actor, or a `*` and the digits of a count so far.
+/// What was read last within a part: nothing of the next actor, an actor, or a `*` and the digits of a count.
 #[derive(Clone, Copy)]
 enum Place {
     Start,
@@ -145,7 +145,7 @@ impl Reading {
     /// Whether a byte goes on; after `false` and `Memory` nothing is known of the reading.
     fn byte(&mut self, alloc: Global, byte: u8) -> Result<bool, Memory>
         requires { HasRoom self.old }
-        ensures said { IfOk result (ReadsOn (after_byte self.old byte) self.new) }
+        ensures said { IfOk result (ReadsOn (reading_after self.old byte) self.new) }
         ensures room { IfOk result (λ goes. goes ≡ true → HasRoom self.new) }
     {
         if byte == b',' {

@@ -4,7 +4,6 @@ ghost use Rattle.std.specs.Prelude.{◌≡◌, ◌≤◌, length};
 ghost use Rattle.script_lang.specs.Verbs.{name_of, is_verb, verb_in, forms_of, takes as takes_said, optional_words};
 
 use crate::form::Form;
-use crate::grammar::Grammar;
 
 /// What a line asks for.
 #[derive(Clone, Copy, Debug, PartialEq, Eq)]
@@ -84,19 +83,19 @@ impl Verb {
         }
     }
 
-    /// Whether a word is this verb, and the verb is read.
-    fn is(self, grammar: Grammar, word: &[u8]) -> bool
-        ensures { result ≡ is_verb grammar word.now self }
+    /// Whether a word is this verb.
+    fn is(self, word: &[u8]) -> bool
+        ensures { result ≡ is_verb word.now self }
     {
-        self.name() == word && grammar.serves(self)
+        self.name() == word
     }
 
     /// The verb that a word is.
     #[tactic(auto, unfolding(crate::specs::Verbs::verb_in))]
-    pub fn of(grammar: Grammar, word: &[u8]) -> Option<Verb>
-        ensures { result ≡ verb_in grammar word.now }
+    pub fn of(word: &[u8]) -> Option<Verb>
+        ensures { result ≡ verb_in word.now }
     {
-        VERBS.iter().find(|verb| verb.is(grammar, word)).copied()
+        VERBS.iter().find(|verb| verb.is(word)).copied()
     }
 
     /// The forms of the words that follow it.

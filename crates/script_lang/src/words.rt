@@ -3,7 +3,7 @@
 ghost use Rattle.std.specs.Prelude.{◌≡◌, ◌<◌, ◌≤◌, ◌^◌, IfSome, IfOk};
 ghost use Rattle.std.specs.Option.{option_copied};
 ghost use Rattle.script_lang.specs.Words.{number_below as number_below_said, number_in, count_in, head_in, name_in};
-ghost use Rattle.script_lang.specs.Words.{is_thin as thin_said, thickness_in, is_visible as visible_said, key_in};
+ghost use Rattle.script_lang.specs.Words.{says_thin, thickness_in, is_visible as visible_said, key_in};
 ghost use Rattle.script_lang.specs.Words.{if_decoded, value_in};
 ghost use Rattle.hex.specs.Hex.{decode_of};
 
@@ -77,7 +77,7 @@ pub fn name(word: &[u8]) -> Option<Name>
 
 /// Whether `thin` is said.
 fn is_thin(word: &[u8]) -> bool
-    ensures { result ≡ thin_said word.now }
+    ensures { result ≡ says_thin word.now }
 {
     word == b"thin".as_slice()
 }

@@ -1,20 +1,14 @@
 //! Lines, each with its commands or with what is wrong with it.
 
 use crate::told::{expect, told};
-use script_lang::Grammar;
 use std::alloc::Global;
 use std::process::Abort;
 use std::test::Fail;
 
 /// Whether each text is what is said of it.
-fn compare(
-    rt: &impl Abort,
-    alloc: Global,
-    grammar: Grammar,
-    cases: &[(&[u8], &[u8])],
-) -> Result<(), Fail> {
+fn compare(rt: &impl Abort, alloc: Global, cases: &[(&[u8], &[u8])]) -> Result<(), Fail> {
     for (text, wanted) in cases {
-        expect(rt, &told(alloc, grammar, text)?, wanted);
+        expect(rt, &told(alloc, text)?, wanted);
     }
     Ok(())
 }
@@ -48,8 +42,20 @@ fn pages_and_new_volumes(rt: HostRuntime) -> Result<(), Fail> {
             b"0 read v 18446744073709551614 1",
             b"0 read v 18446744073709551614;",
         ),
+        (
+            b"0 create v 8 thin 67e55044-10b1-426f-9247-bb680e5fe0c8",
+            b"0 create v 8 thin 67e5504410b1426f9247bb680e5fe0c8;",
+        ),
+        (b"0 create v 8 thick", b"0 create v 8 thick;"),
+        (
+            b"0 create v 8 thick 67e55044-10b1-426f-9247-bb680e5fe0c8",
+            b"0 create v 8 thick 67e5504410b1426f9247bb680e5fe0c8;",
+        ),
+        (b"1 create v 8 thin", b"1 create v 8 thin;"),
+        (b"0 write v 4 2 7", b"0 write v 4 7;0 write v 5 8;"),
+        (b"0 read @3 7 2", b"0 read @3 7;0 read @3 8;"),
     ];
-    compare(&rt, rt.alloc(), Grammar::Whole, cases)
+    compare(&rt, rt.alloc(), cases)
 }
 
 /// Lines on attributes.
@@ -67,8 +73,18 @@ fn attributes(rt: HostRuntime) -> Result<(), Fail> {
         (b"0 put v k t:x", b"0 put v k x;"),
         (b"0 sync v", b"0 sync v;"),
         (b"0 sync v@#", b"0 sync v@#;"),
+        (b"0 flush", b"0 flush;"),
+        (b"0 setx @1 owner t:bob", b"0 setx @1 owner bob;"),
+        (b"0 setx lvol owner t:bob", b"0 setx lvol owner bob;"),
+        (b"0 delx @22 owner", b"0 delx @22 owner;"),
+        (b"0 getx @0 ~", b"0 getx @0 ~;"),
+        (b"0 put @4294967295 k h:", b"0 put @4294967295 k ;"),
+        (b"1 put @0 owner t:bob", b"1 put @0 owner bob;"),
+        (b"15 sync @0", b"15 sync @0;"),
+        (b"0 sync lvol", b"0 sync lvol;"),
+        (b"# c\n\n0 sync @7\n", b"0 sync @7;"),
     ];
-    compare(&rt, rt.alloc(), Grammar::Whole, cases)
+    compare(&rt, rt.alloc(), cases)
 }
 
 /// Lines on volumes, and lines that are skipped.
@@ -100,8 +116,14 @@ fn volumes_and_skipped_lines(rt: HostRuntime) -> Result<(), Fail> {
             b"0 list;1 df;1 flush;15 flush;",
         ),
         (b"0 info flush", b"0 info flush;"),
+        (b"0 resize @0 3", b"0 resize @0 3;"),
+        (b"0 resize lvol 1048577", b"0 resize lvol 1048577;"),
+        (b"9 resize @0 3", b"9 resize @0 3;"),
+        (b"0 clone v c", b"0 clone v c;"),
+        (b"0 delete @1", b"0 delete @1;"),
+        (b"0 rename @0 w", b"0 rename @0 w;"),
     ];
-    compare(&rt, rt.alloc(), Grammar::Whole, cases)
+    compare(&rt, rt.alloc(), cases)
 }
 
 /// Bad lines that make volumes.
@@ -126,8 +148,11 @@ fn bad_new_volumes(rt: HostRuntime) -> Result<(), Fail> {
         (b"0 create v +8 thin", b"1 Number"),
         (b"0 create v -8 thin", b"1 Number"),
         (b"0 create v 0x8 thin zz", b"1 Number"),
+        (b"0 create @0 x fat", b"1 Form"),
+        (b"0 create @0 x thick", b"1 Volume"),
+        (b"0 create @0 8 thin", b"1 Volume"),
     ];
-    compare(&rt, rt.alloc(), Grammar::Whole, cases)
+    compare(&rt, rt.alloc(), cases)
 }
 
 /// Bad lines that read and write.
@@ -148,8 +173,11 @@ fn bad_pages(rt: HostRuntime) -> Result<(), Fail> {
         (b"0 read v 0 1 7", b"1 Form"),
         (b"0 flush x", b"1 Form"),
         (b"0 list v", b"1 Form"),
+        (b"0 read v 0 257", b"1 Number"),
+        (b"0 read", b"1 Form"),
+        (b"0 df @0", b"1 Form"),
     ];
-    compare(&rt, rt.alloc(), Grammar::Whole, cases)
+    compare(&rt, rt.alloc(), cases)
 }
 
 /// Bad lines on attributes and volumes.
@@ -171,8 +199,22 @@ fn bad_attributes_and_volumes(rt: HostRuntime) -> Result<(), Fail> {
         (b"0 sync @", b"1 Volume"),
         (b"0 sync @01", b"1 Volume"),
         (b"0 sync @+1", b"1 Volume"),
+        (b"0 put @0 owner bob", b"1 KeyValue"),
+        (b"9 put @0 owner", b"1 Form"),
+        (b"0 getx #lvol owner", b"1 Volume"),
+        (b"0 resize @0 fat", b"1 Number"),
+        (b"0 resize @0", b"1 Form"),
+        (b"0 snapshot @3 @1", b"1 Volume"),
+        (b"0 clone v @1", b"1 Volume"),
+        (b"0 delete v s", b"1 Form"),
+        (b"0 readonly", b"1 Form"),
+        (b"0 sync @0 owner", b"1 Form"),
+        (
+            b"0 put @0 k t:\n0 sync @4294967295\n0 setx @0 owner bob\n0",
+            b"3 KeyValue",
+        ),
     ];
-    compare(&rt, rt.alloc(), Grammar::Whole, cases)
+    compare(&rt, rt.alloc(), cases)
 }
 
 /// Bad channels, verbs and forms.
@@ -202,78 +244,10 @@ fn bad_channels_and_forms(rt: HostRuntime) -> Result<(), Fail> {
         (b"0 sync \x7f", b"1 Form"),
         (b" # c", b"1 Form"),
         (b"0 df\n\n# c\n0 sync @\n0 nosuch\n", b"4 Volume"),
-    ];
-    compare(&rt, rt.alloc(), Grammar::Whole, cases)
-}
-
-/// Lines by what the program serves so far.
-#[test]
-fn lines_as_served(rt: HostRuntime) -> Result<(), Fail> {
-    let cases: &[(&[u8], &[u8])] = &[
-        (b"0 setx @1 owner t:bob", b"0 setx @1 owner bob;"),
-        (b"0 delx @22 owner", b"0 delx @22 owner;"),
-        (b"0 getx @0 ~", b"0 getx @0 ~;"),
-        (b"0 put @4294967295 k h:", b"0 put @4294967295 k ;"),
-        (b"# c\n\n0 sync @7\n", b"0 sync @7;"),
-        (b"0 create v 8 thin", b"0 create v 8 thin;"),
-        (
-            b"0 create v 8 thin 67e55044-10b1-426f-9247-bb680e5fe0c8",
-            b"0 create v 8 thin 67e5504410b1426f9247bb680e5fe0c8;",
-        ),
-        (b"0 create v 8 thick", b"0 create v 8 thick;"),
-        (
-            b"0 create v 8 thick 67e55044-10b1-426f-9247-bb680e5fe0c8",
-            b"0 create v 8 thick 67e5504410b1426f9247bb680e5fe0c8;",
-        ),
-        (b"0 resize @0 3", b"0 resize @0 3;"),
-        (b"0 resize lvol 1048577", b"0 resize lvol 1048577;"),
-        (b"0 df", b"0 df;"),
-        (b"1 put @0 owner t:bob", b"1 put @0 owner bob;"),
-        (b"15 sync @0", b"15 sync @0;"),
         (b"16 flush", b"1 Channel"),
-        (b"0 flush", b"0 flush;"),
-        (b"0 read @3 7 2", b"0 read @3 7;0 read @3 8;"),
-        (b"0 read v 0 257", b"1 Number"),
-        (b"0 read", b"1 Form"),
-        (b"0 write v 4 2 7", b"0 write v 4 7;0 write v 5 8;"),
-        (b"0 write v 0 257 7", b"1 Number"),
-        (b"0 write v 0 1", b"1 Form"),
-        (b"0 snapshot v s", b"0 snapshot v s;"),
-        (b"0 snapshot @3 @1", b"1 Volume"),
-        (b"0 clone v c", b"0 clone v c;"),
-        (b"0 clone v @1", b"1 Volume"),
-        (b"0 rename @0 w", b"0 rename @0 w;"),
-        (b"0 delete @1", b"0 delete @1;"),
-        (b"0 delete v s", b"1 Form"),
-        (b"0 inflate v", b"0 inflate v;"),
-        (b"0 decouple v", b"0 decouple v;"),
-        (b"0 info v", b"0 info v;"),
-        (b"0 list", b"0 list;"),
-        (b"0 readonly v", b"0 readonly v;"),
-        (b"0 readonly", b"1 Form"),
-        (b"0 resize @0 fat", b"1 Number"),
-        (b"0 resize @0", b"1 Form"),
-        (b"9 resize @0 3", b"9 resize @0 3;"),
-        (b"0 create v 8 fat", b"1 Form"),
-        (b"0 create @0 x fat", b"1 Form"),
-        (b"0 create @0 x thick", b"1 Volume"),
-        (b"0 create @0 8 thin", b"1 Volume"),
-        (b"0 create v 8 thin 67e55044", b"1 Uuid"),
-        (b"1 create v 8 thin", b"1 create v 8 thin;"),
-        (b"0 df @0", b"1 Form"),
-        (b"0 setx lvol owner t:bob", b"0 setx lvol owner bob;"),
-        (b"0 sync lvol", b"0 sync lvol;"),
-        (b"0 getx #lvol owner", b"1 Volume"),
-        (b"0 put @0 owner bob", b"1 KeyValue"),
-        (b"9 put @0 owner", b"1 Form"),
-        (b"0 sync @0 owner", b"1 Form"),
         (b"9 get @0 owner\t", b"1 Form"),
-        (
-            b"0 put @0 k t:\n0 sync @4294967295\n0 setx @0 owner bob\n0",
-            b"3 KeyValue",
-        ),
     ];
-    compare(&rt, rt.alloc(), Grammar::Served, cases)
+    compare(&rt, rt.alloc(), cases)
 }
 
 /// A name of 63 bytes and a key of 255 are taken; one byte more is not.
@@ -291,7 +265,7 @@ fn names_and_keys_have_their_lengths(rt: HostRuntime) -> Result<(), Fail> {
     for (front, word, wanted) in cases {
         let mut line = front.to_vec(alloc)?;
         line.extend_from_slice(word)?;
-        let said = told(alloc, Grammar::Whole, &line)?;
+        let said = told(alloc, &line)?;
         line.push(b';')?;
         expect(&rt, &said, if wanted.is_empty() { &line } else { wanted });
     }

@@ -1,7 +1,7 @@
 //! The limits on lines, pages and bytes, each at its last good value and one above it.
 
 use crate::told::{expect, told};
-use script_lang::{Grammar, parse, read_script};
+use script_lang::parse;
 use std::alloc::Global;
 use std::test::Fail;
 
@@ -37,7 +37,7 @@ fn one_line_one_page_or_one_byte_too_many(rt: HostRuntime) -> Result<(), Fail> {
     ];
     for (lines, line, end, wanted) in cases {
         let text = long_text(alloc, *lines, line, end)?;
-        expect(&rt, &told(alloc, Grammar::Whole, text.as_slice())?, wanted);
+        expect(&rt, &told(alloc, text.as_slice())?, wanted);
     }
     Ok(())
 }
@@ -46,7 +46,7 @@ fn one_line_one_page_or_one_byte_too_many(rt: HostRuntime) -> Result<(), Fail> {
 fn the_most_pages_and_the_most_commands(rt: HostRuntime) -> Result<(), Fail> {
     let alloc = rt.alloc();
     let pages = long_text(alloc, 256, b"3 read v 0 256\n", b"3 flush\n")?;
-    let script = read_script(alloc, Grammar::Whole, pages.as_slice())?;
+    let script = parse(alloc, pages.as_slice())?;
     assert_eq!(rt; script.commands(3).len(), 65537);
     assert_eq!(rt; script.channels(), 4);
     let lines = long_text(alloc, 65536, b"0 sync @0\n", b"")?;

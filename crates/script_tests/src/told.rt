@@ -1,7 +1,7 @@
 //! Scripts as texts, to compare them.
 
 use out_of_memory::Memory;
-use script_lang::{Grammar, ScriptFault, read_script};
+use script_lang::{ScriptFault, parse};
 use std::alloc::Global;
 use std::process::Abort;
 use std::test::Fail;
@@ -148,9 +148,9 @@ pub fn told_of(alloc: Global, script: &Script) -> Result<Vec<u8>, Fail> {
     Ok(into)
 }
 
-/// What a text is by a grammar: its commands, or the line at fault and its kind.
-pub fn told(alloc: Global, grammar: Grammar, text: &[u8]) -> Result<Vec<u8>, Fail> {
-    match read_script(alloc, grammar, text) {
+/// What a text is as a script: its commands, or the line at fault and its kind.
+pub fn told(alloc: Global, text: &[u8]) -> Result<Vec<u8>, Fail> {
+    match parse(alloc, text) {
         Ok(script) => told_of(alloc, &script),
         Err(ScriptFault::BadLine { line, kind }) => {
             Ok(Vec::from_slice(alloc, format!(in alloc; "{line} {kind:?}")?.as_bytes())?)

@@ -3,7 +3,6 @@ use Rattle.std.specs.Option.{option_map}
 use Rattle.script_lang.specs.Generated.{generated_requests}
 use Rattle.script_lang.specs.Script.{script_of}
 use Rattle.script_lang.proofs.GeneratedScripts.{one_request_more, lines_said, text_read}
-use Rattle.script_lang.proofs.GeneratedServed.{generated_served}
 use Rattle.script_lang.proofs.generator.generate.Goals as goal
 
 pub loop-preserved : goal.loop-preserved
@@ -27,6 +26,3 @@ returns-clause-read c short =
     let n : c.loop.counter ≡ c.args.size + 4 = omega arith in
     text_read c.args.number (c.args.size + 4) (omega arith) short
     ∙ ap (λ k. Some (script_of (generated_requests c.args.number k))) (sym n) ∙ ap Some (sym c.loop.invariant.0)
-
-pub returns-clause-all_served : goal.returns-clause-all_served
-returns-clause-all_served c = generated_served c.args.number c.loop.counter c.loop.script c.loop.invariant.0

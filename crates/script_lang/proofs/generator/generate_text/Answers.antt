@@ -1,5 +1,4 @@
 use Rattle.std.proofs.Common.{◌≡◌, ◌+◌, length, ap, ◌∙◌, arith}
-use Rattle.script_lang.specs.declared.grammar.Grammar.TheVariants.{Whole}
 use Rattle.script_lang.specs.Generated.{generated_lines}
 use Rattle.script_lang.specs.Script.{lines, requests_in}
 use Rattle.script_lang.proofs.GeneratedScripts.{one_text_more, lines_said, text_short}
@@ -16,8 +15,8 @@ loop-preserved c =
 pub returns-clause-grammar : goal.returns-clause-grammar
 returns-clause-grammar c =
     let n : c.loop.counter ≡ c.args.size + 4 = omega arith in
-    ap (λ text. requests_in Whole (lines text)) c.loop.invariant.0
-    ∙ ap (λ k. requests_in Whole (lines (generated_lines c.args.number k))) n
+    ap (λ text. requests_in (lines text)) c.loop.invariant.0
+    ∙ ap (λ k. requests_in (lines (generated_lines c.args.number k))) n
     ∙ lines_said c.args.number (c.args.size + 4) (omega arith)
 
 pub returns-clause-short : goal.returns-clause-short

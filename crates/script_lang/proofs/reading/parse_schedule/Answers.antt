@@ -1,5 +1,5 @@
 use Rattle.std.proofs.Common.{◌≡◌, ◌+◌, get_or, Some, None, refl, sym, ap, subst, rules, arith}
-use Rattle.script_lang.specs.Reading.{ended, after_byte, HasRoom}
+use Rattle.script_lang.specs.Reading.{ended, reading_after, HasRoom}
 use Rattle.script_lang.specs.Schedules.{IsFirstBadByte}
 use Rattle.script_lang.proofs.ScheduleAnswers.{begun, one_more, bad_byte, refused_byte, bad_end, refused_end, found}
 use Rattle.script_lang.proofs.ScheduleAnswers.{only, place_small}
@@ -10,19 +10,21 @@ loop-byte-init c = (refl, begun c.args.text.now c.new-reading.result c.new-readi
 
 pub returns-then-not-branch-clause-refused : goal.returns-then-not-branch-clause-refused
 returns-then-not-branch-clause-refused c =
-    let none : after_byte c.loop-byte.reading (get_or c.args.text.now c.loop-byte.byte-index 0) ≡ None = search rules in
+    let none : reading_after c.loop-byte.reading (get_or c.args.text.now c.loop-byte.byte-index 0) ≡ None =
+    search rules in
     refused_byte c.args.text.now c.loop-byte.byte-index c.loop-byte.reading c.loop-byte.invariant.1 (omega arith) none
 
 pub returns-then-not-branch-clause-why : goal.returns-then-not-branch-clause-why
 returns-then-not-branch-clause-why c =
-    let none : after_byte c.loop-byte.reading (get_or c.args.text.now c.loop-byte.byte-index 0) ≡ None = search rules in
+    let none : reading_after c.loop-byte.reading (get_or c.args.text.now c.loop-byte.byte-index 0) ≡ None =
+    search rules in
     subst (IsFirstBadByte c.args.text.now) (sym c.loop-byte.invariant.0)
     (bad_byte c.args.text.now c.loop-byte.byte-index c.loop-byte.reading c.loop-byte.invariant.1 (omega arith) none)
 
 pub loop-byte-preserved : goal.loop-byte-preserved
 loop-byte-preserved c =
-    let some : after_byte c.loop-byte.reading (get_or c.args.text.now c.loop-byte.byte-index 0) ≡ Some c.byte.new.self
-    = search rules in
+    let some : reading_after c.loop-byte.reading (get_or c.args.text.now c.loop-byte.byte-index 0)
+    ≡ Some c.byte.new.self = search rules in
     let room : HasRoom c.byte.new.self = search rules in (
       ap (λ n. n + 1) c.loop-byte.invariant.0,
       one_more c.args.text.now c.loop-byte.byte-index c.loop-byte.reading c.byte.new.self c.loop-byte.invariant.1

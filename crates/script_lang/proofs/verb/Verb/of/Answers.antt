@@ -8,5 +8,5 @@ pub returns : goal.returns
 unfolding verb_in
 returns c =
     c.copied.ensures
-    ∙ find_from_yields_List (is_verb c.args.grammar c.args.word.now) _ _ c.find.result c.find.ensures.ran
+    ∙ find_from_yields_List (is_verb c.args.word.now) _ _ c.find.result c.find.ensures.ran
     (YieldsList-from_slice verbs (search rules)) (λ x b q k. search (rules, tests))
