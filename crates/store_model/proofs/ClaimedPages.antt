@@ -18,7 +18,7 @@ use Rattle.store_model.specs.StoreState.{shown}
 use Rattle.store_model.proofs.Holding.{put_elsewhere}
 use Rattle.store_model.proofs.JobKept.{claimed_behind}
 use Rattle.store_model.proofs.Known.{Known}
-use Rattle.store_model.proofs.Over.{says, Over, Way}
+use Rattle.store_model.proofs.Over.{known_of, Over, says, Way}
 use Rattle.store_model.proofs.Resolved.{resolved_mapped}
 use Rattle.store_model.proofs.Shows.{shown_agree}
 use Rattle.store_model.proofs.StandsKept.{stands_claimed}
@@ -56,9 +56,6 @@ module _ (known : Known) where
 module _ {D : Type 0} (d : Ghosts D) (x : Over d) where
   open x use {s, placed, first, script, p, from, to, old, facts}
 
-  abbrev known : Known
-  known = record { s = s; placed = placed; first = first; script = script; p = p; facts = facts }
-
   module _ (runs : p.stopped ≡ None) (page : ℕ)
       (among : is_among (page / cluster_pages_of p.super) (claimed_by p.job) ≡ true) where
     abbrev pub At : Images
@@ -66,7 +63,7 @@ module _ {D : Type 0} (d : Ghosts D) (x : Over d) where
 
     pub behind : fixed_clusters_of s * cluster_pages_of s ≤ page
     behind = subst (λ (t : Super). fixed_clusters_of t * cluster_pages_of t ≤ page) facts.super
-        (claimed_behind known (facts.well runs) page among)
+        (claimed_behind (known_of x) (facts.well runs) page among)
 
     -- an image from before, but for the page
     record Differs (c : Image) : Type 0 where
@@ -91,7 +88,7 @@ module _ {D : Type 0} (d : Ghosts D) (x : Over d) where
         let y = differs c w in
         stands_claimed s placed first p.base p.chains p.log page (d.now from) later y.before c behind
         (subst (λ (t : Super). IsNoPage (cluster_pages_of t) (resolved p.base) page) facts.super
-        (no_page known runs page among)) read y.but (old.stands runs y.before y.was)
+        (no_page (known_of x) runs page among)) read y.but (old.stands runs y.before y.was)
 
     pub claimed_way : (c : Image) → At c → Way d x c
     claimed_way c w = says runs (claimed_stands (d.now from) (λ k ne. refl) c w)

@@ -25,7 +25,7 @@ use Rattle.store_model.proofs.Holding.{put_elsewhere}
 use Rattle.store_model.proofs.Known.{Known}
 use Rattle.store_model.proofs.OneReplacement.{some_pages}
 use Rattle.store_model.proofs.Resolved.{resolved_mapped}
-use Rattle.store_model.proofs.Over.{ImageLaw, Over, says, Way}
+use Rattle.store_model.proofs.Over.{ImageLaw, known_of, Over, says, Way}
 use Rattle.store_model.proofs.PageWritten.{same_place}
 use Rattle.store_model.proofs.Shows.{shown_agree}
 use Rattle.store_model.proofs.StandsKept.{far_metadata, stands_claimed}
@@ -123,9 +123,6 @@ module _ {D : Type 0} (d : Ghosts D) (x : Over d) (row : ℕ) (claim : OpenClaim
     (runs : x.p.stopped ≡ None) (content : List ℕ) where
   open x use {told, law, s, placed, first, script, p, q, from, to, to_is, from_is, old, facts}
 
-  abbrev known_here : Known
-  known_here = record { s = s; placed = placed; first = first; script = script; p = p; facts = facts }
-
   abbrev at : ℕ
   at = page_of_claim p claim page
 
@@ -137,12 +134,13 @@ module _ {D : Type 0} (d : Ghosts D) (x : Over d) (row : ℕ) (claim : OpenClaim
   stand later read c w = elim w.kept_or_put [
     | inl e ↦ subst (Stands s first p.base p.chains p.log later) (sym e)
         (stands_claimed s placed first p.base p.chains p.log at (d.now from) later w.before w.before
-        (claimed_behind known_here runs row claim held page low)
-        (claimed_no_page known_here runs row claim held page low) read (λ q ne. refl) (old.stands runs w.before w.was))
+        (claimed_behind (known_of x) runs row claim held page low)
+        (claimed_no_page (known_of x) runs row claim held page low) read (λ q ne. refl)
+        (old.stands runs w.before w.was))
     | inr e ↦ subst (Stands s first p.base p.chains p.log later) (sym e.0)
         (stands_claimed s placed first p.base p.chains p.log at (d.now from) later w.before _
-        (claimed_behind known_here runs row claim held page low)
-        (claimed_no_page known_here runs row claim held page low) read
+        (claimed_behind (known_of x) runs row claim held page low)
+        (claimed_no_page (known_of x) runs row claim held page low) read
         (λ q ne. put_elsewhere w.before at q w.page ne) (old.stands runs w.before w.was))
   ]
 
@@ -171,9 +169,9 @@ module _ {D : Type 0} (d : Ghosts D) (x : Over d) (row : ℕ) (claim : OpenClaim
         let well = facts.well runs in
         let stood = well.job j was in
         let next = next_of p.super p.base p.chains (gained_by p.rows j) j.todo j.written place among stood.lays in
-        let under = held_low known_here well (held_by p.job) refl place
+        let under = held_low (known_of x) well (held_by p.job) refl place
         (ap (λ o. is_among place (held_by o)) was ∙ next.is_held place (next.fresh place among)) in
         read (s.md_start + place)
-        (far_metadata s placed at (claimed_behind known_here runs row claim held page low) place under)
+        (far_metadata s placed at (claimed_behind (known_of x) runs row claim held page low) place under)
         ∙ old.written runs j was place among;
   }

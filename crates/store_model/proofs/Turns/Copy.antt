@@ -23,7 +23,7 @@ use Rattle.store_model.proofs.CopyTurning.{claimed_facts, claimed_images, slots_
 use Rattle.store_model.proofs.Going.{left_of, told_reads}
 use Rattle.store_model.proofs.Holding.{put_elsewhere, put_here}
 use Rattle.store_model.proofs.Known.{Known}
-use Rattle.store_model.proofs.Over.{Effect, ImageLaw, moves, nothing, Over, TurnLaw}
+use Rattle.store_model.proofs.Over.{Effect, ImageLaw, known_of, moves, nothing, Over, TurnLaw}
 use Rattle.store_model.proofs.RowsKept.{row_here, row_other}
 use Rattle.store_model.proofs.Shaped.{holding_may}
 use Rattle.store_model.proofs.StateKept.{claim_facts, held_here, not_in_job}
@@ -157,9 +157,6 @@ module _ (known : Known) (told : Bool) (q : StoreState) (t : Copies told known.p
 module _ {D : Type 0} (d : Ghosts D) (x : Over d) (t : Copies d.tells x.p x.q) where
   open x use {told, s, placed, first, script, p, q, from, to, to_is, from_is, facts}
 
-  abbrev known_here : Known
-  known_here = record { s = s; placed = placed; first = first; script = script; p = p; facts = facts }
-
   read_now_same : IsSameButAt (place d.tells p q t) (d.now from) (d.now to)
   read_now_same n ne =
       ap (λ (i : Image). i n) (sym (told_reads d to told) ∙ sym (ap (λ (v : Device). v.reads) to_is)
@@ -171,7 +168,7 @@ module _ {D : Type 0} (d : Ghosts D) (x : Over d) (t : Copies d.tells x.p x.q) w
       → ImageLaw d x (left_by (puts (place d.tells p q t) t.content false) (d.images from) (d.now from))
   images does =
       claimed_images d x t.copying.row (claim d.tells p q t) (held d.tells p q t) t.page
-      (low known_here d.tells q t) t.runs t.content (ap (λ (v : StoreState). v.base) t.next)
+      (low (known_of x) d.tells q t) t.runs t.content (ap (λ (v : StoreState). v.base) t.next)
       (ap (λ (v : StoreState). v.chains) t.next) (ap (λ (v : StoreState). v.log) t.next)
       (ap (λ (v : StoreState). v.job) t.next) read_now_same
       (left_of d x (puts (place d.tells p q t) t.content false) does)

@@ -31,7 +31,7 @@ use Rattle.store_model.specs.Places.{all_set, AreDistinct, claimed_by, held_by, 
 use Rattle.store_model.specs.Rows.{Decided, OpenClaim, Row, with_row, Won}
 use Rattle.store_model.specs.StoreState.{ForInsert, JobState, shown, StoreState, waiting}
 use Rattle.store_model.specs.Touches.{puts}
-use Rattle.store_model.specs.Turning.{page_of_place, WritesOnePage}
+use Rattle.store_model.specs.Turning.{page_of_place}
 use Rattle.store_model.specs.Cases.InsertEnd as case
 use Rattle.store_model.specs.Cases.InsertEnd.{InsertEnds}
 use Rattle.store_model.specs.RunInvariant.{RunInvariant, RunsWell}
@@ -43,7 +43,7 @@ use Rattle.store_model.proofs.Guarding.{none_frozen_by, none_guarded}
 use Rattle.store_model.proofs.JobKept.{copied_put, held_is, held_low, no_other, written_same}
 use Rattle.store_model.proofs.Known.{Known}
 use Rattle.store_model.proofs.LeftToDo.{among_left}
-use Rattle.store_model.proofs.Over.{Effect, moves, nothing, TurnLaw}
+use Rattle.store_model.proofs.Over.{Effect, known_of, moves, nothing, TurnLaw}
 use Rattle.store_model.proofs.RowsKept.{row_same}
 use Rattle.store_model.proofs.Shaped.{outcome_may, shaped_with}
 use Rattle.store_model.proofs.Shapes.{place_images}
@@ -155,15 +155,9 @@ law = record {
   effect = λ told p q t. subst (Effect p) (sym t.next)
       (record { goes = moves t.running.runs refl t.moves.write_faults; logs = nothing refl refl });
   images = λ d x t does.
-      let known_here : Known =
-      record { s = x.s; placed = x.placed; first = x.first; script = x.script; p = x.p; facts = x.facts } in
-      let done : WritesOnePage d.tells x.p.device (page_of_place x.p t.place) zero_page 2 x.q.device =
-      subst (λ (v : StoreState). WritesOnePage d.tells x.p.device (page_of_place x.p t.place) zero_page 2 v.device)
-      (sym t.next) t.moves in
       let none : x.q.job ≡ None = ap (λ (v : StoreState). v.job) t.next in
-      place_images d x t.running.runs t.place (is_held known_here d.tells x.q t) zero_page (x.laws.jobs.zeros t.place)
-      (ap (λ (v : StoreState). v.base) t.next)
-      (ap (λ (v : StoreState). v.chains) t.next) (ap (λ (v : StoreState). v.log) t.next) 2 done
+      place_images d x t.running.runs t.place (is_held (known_of x) d.tells x.q t) zero_page (x.laws.jobs.zeros t.place)
+      _ t.next refl refl refl 2 t.moves
       (left_of d x (puts (page_of_place x.p t.place) zero_page true) does)
       (λ job is. absurd (let bad = sym none ∙ is in cc bad));
   job = λ of. absurd of;

@@ -28,7 +28,7 @@ use Rattle.store_model.proofs.JobKept.{claimed_behind, held_low, IsPassed, lays_
 use Rattle.store_model.proofs.Known.{Known}
 use Rattle.store_model.proofs.LeftToDo.{next_of}
 use Rattle.store_model.proofs.Moved.{stands_same}
-use Rattle.store_model.proofs.Over.{Effect, ImageLaw, moves, nothing, Over, TurnLaw}
+use Rattle.store_model.proofs.Over.{Effect, ImageLaw, known_of, moves, nothing, Over, TurnLaw}
 use Rattle.store_model.proofs.Shows.{resolved_faultless, shown_same}
 use Rattle.store_model.proofs.StandsKept.{far_super, super_outside}
 use Rattle.store_model.proofs.SuperMarked.{elsewhere, mark_way, marked_image, marked_stands}
@@ -99,9 +99,6 @@ module _ (known : Known) (told : Bool) (q : StoreState) (t : MarksDirty told kno
 module _ {D : Type 0} (d : Ghosts D) (x : Over d) (t : MarksDirty d.tells x.p x.q) where
   open x use {told, s, placed, first, script, p, q, from, from_is, to, to_is, old, facts}
 
-  abbrev here : Known
-  here = record { s = s; placed = placed; first = first; script = script; p = p; facts = facts }
-
   abbrev marked : Image
   marked = marked_image d x t.running.runs t.page t.says
 
@@ -120,7 +117,7 @@ module _ {D : Type 0} (d : Ghosts D) (x : Over d) (t : MarksDirty d.tells x.p x.
       subst (λ (n : Image). Stands s first q.base q.chains q.log n marked) (sym now_is)
       (subst (λ (v : StoreState). Stands s first v.base v.chains v.log marked marked) (sym t.next) stands)
 
-  job_now : q.job ≡ Some (later here d.tells q t)
+  job_now : q.job ≡ Some (later (known_of x) d.tells q t)
   job_now = ap (λ (v : StoreState). v.job) t.next
 
   images : DoesTouch d from to (replaces 0 t.page true)
@@ -130,14 +127,14 @@ module _ {D : Type 0} (d : Ghosts D) (x : Over d) (t : MarksDirty d.tells x.p x.
     stands = λ _ c held. subst (Stands s first q.base q.chains q.log (d.now to))
         (sym now_is ∙ sym ((does.durable refl told c).0 held)) stands_there;
     written = λ on job is place among.
-        let same : later here d.tells q t ≡ job = let both = sym job_now ∙ is in cc both in
+        let same : later (known_of x) d.tells q t ≡ job = let both = sym job_now ∙ is in cc both in
         let among_j : is_among place t.running.job.written ≡ true =
         ap (λ (i : JobState). is_among place i.written) same ∙ among in
         let well = facts.well t.running.runs in
         let stood = well.job t.running.job t.running.is in
         let next = next_of p.super p.base p.chains (gained_by p.rows t.running.job) t.running.job.todo
         t.running.job.written place among_j stood.lays in
-        let low = held_low here well _ refl place
+        let low = held_low (known_of x) well _ refl place
         (ap (λ o. is_among place (held_by o)) t.running.is ∙ next.is_held place (next.fresh place among_j)) in
         ap (λ (i : Image). i (s.md_start + place)) now_is
         ∙ elsewhere d x t.running.runs t.page t.says (s.md_start + place)

@@ -33,7 +33,7 @@ use Rattle.store_model.proofs.JobKept.{held_low, lays_here, IsPassed}
 use Rattle.store_model.proofs.JobGoesOn.{job_law, job_moves_on}
 use Rattle.store_model.proofs.Known.{Known}
 use Rattle.store_model.proofs.LeftToDo.{next_of, no_place}
-use Rattle.store_model.proofs.Over.{Effect, ImageLaw, moves, nothing, Over, TurnLaw}
+use Rattle.store_model.proofs.Over.{Effect, ImageLaw, known_of, moves, nothing, Over, TurnLaw}
 use Rattle.store_model.proofs.StandsKept.{far_metadata}
 
 -- ---- what is read then
@@ -166,11 +166,8 @@ module _ (known : Known) (told : Bool) (q : StoreState) (t : Zeroes told known.p
 module _ {D : Type 0} (d : Ghosts D) (x : Over d) (t : Zeroes d.tells x.p x.q) where
   open x use {told, law, s, placed, first, script, p, q, from, from_is, to, to_is, old, facts}
 
-  abbrev here : Known
-  here = record { s = s; placed = placed; first = first; script = script; p = p; facts = facts }
-
   is_claimed : is_among (t.page / cluster_pages_of p.super) (claimed_by p.job) ≡ true
-  is_claimed = among here d.tells q t
+  is_claimed = among (known_of x) d.tells q t
 
   reads_from : p.device.reads ≡ d.now from
   reads_from = ap (λ (v : Device). v.reads) from_is ∙ told_reads d from told
@@ -200,7 +197,7 @@ module _ {D : Type 0} (d : Ghosts D) (x : Over d) (t : Zeroes d.tells x.p x.q) w
         let next = next_of p.super p.base p.chains (gained_by p.rows t.running.job) t.running.job.todo
         t.running.job.written place
         among_j stood.lays in
-        let low = held_low here well (held_by p.job) refl place
+        let low = held_low (known_of x) well (held_by p.job) refl place
         (ap (λ o. is_among place (held_by o)) t.running.is ∙ next.is_held place (next.fresh place among_j)) in
         read (s.md_start + place) (far_metadata s placed t.page (behind d x t.running.runs t.page is_claimed) place low)
         ∙ old.written t.running.runs t.running.job t.running.is place among_j
