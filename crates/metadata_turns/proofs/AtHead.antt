@@ -1,14 +1,17 @@
 -- A job at work on a replacement whose head's page comes next, and the row that is told of it.
-use Rattle.std.proofs.Common.{◌≡◌, ℕ, ◌+◌, true, List, ◌∷◌, length, Option, Some, None, refl, ◌∙◌, ap}
+use Rattle.std.proofs.Common.{◌≡◌, ℕ, ◌+◌, true, List, ◌∷◌, length, Option, Some, None, refl, sym, ◌∙◌, ap, subst₂}
 use Rattle.std.specs.Option.{option_map}
 use Rattle.page_disk.specs.Moments.{CallsLeaveOnly, IsReplaced}
 use Rattle.page_disk.specs.declared.disk.PageDisk.{Ghosts}
+use Rattle.volume_model.specs.declared.reply.Reply.{Reply}
+use Rattle.store_model.specs.Cases.{WritesOnePage}
 use Rattle.store_model.specs.Phases.{erasing, has_commit, page_in, Phase, Replaces, Replacing}
+use Rattle.store_model.specs.Rows.{Row}
 use Rattle.store_model.specs.StoreState.{JobState}
 use Rattle.running_store.specs.Blobs.{commit_of}
 use Rattle.running_store.specs.Effects.{commit_seen, reply_of}
 use Rattle.running_store.specs.Jobs.{freeze_of, service_of, IsMatchedFor, IsRemovedFor}
-use Rattle.running_store.specs.StoreView.{StoreView}
+use Rattle.running_store.specs.StoreView.{device_of, StoreView}
 use Rattle.running_store.specs.declared.job.Serves.{Serves}
 use Rattle.running_store.specs.declared.job.Serves.TheVariants as whom
 use Rattle.running_store.specs.declared.replacements.Change.{Change}
@@ -19,7 +22,7 @@ use Rattle.metadata_turns.specs.Telling.{HasServedRow}
 use Rattle.job_views.specs.Replacing.{committing, replacing_for}
 use Rattle.metadata_turns.proofs.InsertFailed.{insert_low}
 use Rattle.metadata_turns.proofs.JobFailed.{command, rest, row_left}
-use Rattle.metadata_turns.proofs.JobTurned.{has_command}
+use Rattle.metadata_turns.proofs.WhatWaits.{has_command}
 
 -- what is planned or erased is so for whom the job serves
 abbrev pub IsFor : Serves → Change → Type 0
@@ -40,10 +43,25 @@ abbrev pub TouchesHead : {D : Type 0} → Ghosts D → StoreView D → Replacing
 TouchesHead d p r disk = CallsLeaveOnly d p.disk disk
     (IsReplaced (d.images p.disk) (d.now p.disk) (p.super.md_start + r.head) (page_in r.planned r.head))
 
+module _ {D : Type 0} (d : Ghosts D) (p : StoreView D) (r : Replacing) (disk : D) {at : ℕ} {page : List ℕ}
+    (at_is : at ≡ p.super.md_start + r.head) (page_is : page ≡ page_in r.planned r.head) where
+  -- device calls that replace this page with what is planned for the head replace the head's,
+  pub touches_head : CallsLeaveOnly d p.disk disk (IsReplaced (d.images p.disk) (d.now p.disk) at page)
+      → TouchesHead d p r disk
+  touches_head = subst₂
+      (λ n page. CallsLeaveOnly d p.disk disk (IsReplaced (d.images p.disk) (d.now p.disk) n page)) at_is page_is
+
+  -- and so do those that write it
+  pub moves_head : WritesOnePage d.tells (device_of d p.disk) at page 3 (device_of d disk)
+      → WritesOnePage d.tells (device_of d p.disk) (p.super.md_start + r.head) (page_in r.planned r.head) 3
+      (device_of d disk)
+  moves_head =
+      subst₂ (λ n page. WritesOnePage d.tells (device_of d p.disk) n page 3 (device_of d disk)) at_is page_is
+
 module _ {D : Type 0} (d : Ghosts D) (p : StoreView D) (x : Change) (old : List ℕ) (more : List Phase) (j : JobState)
   where
-    -- it is one of those that there are
-    pub told_row : (serves : Serves) → IsAtHead d p serves x old more j → length p.rows ≡ 17
+    -- it is one of those that there are,
+    told_row : (serves : Serves) → IsAtHead d p serves x old more j → length p.rows ≡ 17
         → HasServedRow p.rows serves (option_map reply_of (commit_of x))
     told_row (whom.Command channel freeze) n seventeen = by (commit_of x) refl
       where
@@ -61,3 +79,10 @@ module _ {D : Type 0} (d : Ghosts D) (p : StoreView D) (x : Change) (old : List 
             }))
     told_row (whom.Insert at) n seventeen = insert_low d p j n.work at n.serves_is seventeen
     told_row whom.Repair n seventeen = tt
+
+    -- also where the rows and the reply are named otherwise
+    pub row_told : (serves : Serves) → IsAtHead d p serves x old more j → length p.rows ≡ 17 → {rows : List Row}
+        → rows ≡ p.rows → {reply : Option Reply} → reply ≡ option_map reply_of (commit_of x)
+        → HasServedRow rows serves reply
+    row_told serves n seventeen same reply_is =
+        subst₂ (λ rows reply. HasServedRow rows serves reply) (sym same) (sym reply_is) (told_row serves n seventeen)

@@ -25,7 +25,7 @@ use Rattle.running_store.specs.declared.job.Serves.TheVariants as whom
 use Rattle.running_store.specs.declared.job.Work.{Work}
 use Rattle.running_store.specs.declared.job.Work.TheVariants as works
 use Rattle.running_store.proofs.Entered.{disk_same, entered}
-use Rattle.metadata_turns.proofs.JobTurned.{has_command}
+use Rattle.metadata_turns.proofs.WhatWaits.{has_command}
 use Rattle.running_store.proofs.Rowing.{low_left}
 use Rattle.running_store.proofs.WorkLogged.{fill_still, given_up_plainly, given_up_rest, has_work, own_row, work_disk}
 use Rattle.running_store.proofs.WorkLogged.{work_logged, work_low, works_still}

@@ -1,7 +1,6 @@
 -- What a turn makes of the store in which a head's page is replaced, where the job serves a command or a repair.
-use Rattle.std.proofs.Common.{◌≡◌, ◌≢◌, ℕ, ◌+◌, true, false, List, [], ◌∷◌, Option, Some, None, refl, sym, ◌∙◌, ap}
+use Rattle.std.proofs.Common.{◌≡◌, ◌≢◌, ℕ, ◌+◌, true, List, [], ◌∷◌, Option, Some, None, refl, sym, ◌∙◌, ap}
 use Rattle.std.proofs.Common.{subst, IsTrue}
-use Rattle.std.specs.Prelude.{is_some}
 use Rattle.std.specs.Option.{option_map}
 use Rattle.std.specs.FinSet as set
 use Rattle.page_disk.specs.Disk.{Only}
@@ -71,36 +70,24 @@ module _ {D : Type 0} (d : Ghosts D) (p : StoreView D) (x : Change) (old : List 
       device = device_of d disk;
     }
 
+    -- what a replacement makes with this commit, or with none
+    abbrev with_commit : Replacing → Option Commit → StoreState
+    with_commit replacing o = with_parts replacing (numbered_in o replacing.makes replacing.head)
+        (with_live s.live (option_map live_seen (live_change o))) left
+
+    by_commit : (y : Change) (o : Option Commit) → commit_of y ≡ o
+        → behind_state d p serves j n.freezes others left left_is disk y old ≡ with_commit (replacing_for y old) o
+    by_commit (changed.Writes planned) o is = ap (with_commit (replacing_for (changed.Writes planned) old)) is
+    by_commit (changed.Erases erasure) o is = ap (with_commit (replacing_for (changed.Erases erasure) old)) is
+
     -- without a commit a new blob alone gets a generation,
     as_more : commit_of x ≡ None → state_of d after ≡ with_parts r (made_by r) s.live left
-    as_more none = is_behind ∙ by x none
-      where
-        by : (y : Change) → commit_of y ≡ None
-            → behind_state d p serves j n.freezes others left left_is disk y old
-            ≡ with_parts (replacing_for y old) (made_by (replacing_for y old)) s.live left
-        by (changed.Writes planned) none = ap (λ (o : Option Commit).
-            with_parts (replacing_for (changed.Writes planned) old)
-            (numbered_in o (is_some planned.effects.rooms.chain) planned.head)
-            (with_live s.live (option_map live_seen (live_change o))) left) none
-        by (changed.Erases erasure) none = ap (λ (o : Option Commit).
-            with_parts (replacing_for (changed.Erases erasure) old)
-            (numbered_in o false erasure.head) (with_live s.live (option_map live_seen (live_change o))) left) none
+    as_more none = is_behind ∙ by_commit x None none
 
     -- and with one those that it renews
     as_commit : (c : Commit) → commit_of x ≡ Some c
         → state_of d after ≡ with_parts r (commit_seen c).renews (with_live s.live (commit_seen c).live) left
-    as_commit c is = is_behind ∙ by x is
-      where
-        by : (y : Change) → commit_of y ≡ Some c
-            → behind_state d p serves j n.freezes others left left_is disk y old
-            ≡ with_parts (replacing_for y old) (commit_seen c).renews (with_live s.live (commit_seen c).live) left
-        by (changed.Writes planned) is = ap (λ (o : Option Commit).
-            with_parts (replacing_for (changed.Writes planned) old)
-            (numbered_in o (is_some planned.effects.rooms.chain) planned.head)
-            (with_live s.live (option_map live_seen (live_change o))) left) is
-        by (changed.Erases erasure) is = ap (λ (o : Option Commit).
-            with_parts (replacing_for (changed.Erases erasure) old)
-            (numbered_in o false erasure.head) (with_live s.live (option_map live_seen (live_change o))) left) is
+    as_commit c is = is_behind ∙ by_commit x (Some c) is
 
     -- ---- no commit, of a command's job or a repair's
 

@@ -4,7 +4,6 @@ use Rattle.std.proofs.Common.{get_or, subst, drop, true, false}
 use Rattle.std.specs.Prelude.{IfSome, IsSome, is_some, slice_get}
 use Rattle.std.specs.Option.{option_map_or}
 use Rattle.bit_array.specs.Bits.{is_in}
-use Rattle.page_disk.specs.Moments.{CallsLeaveOnly, IsReplaced}
 use Rattle.page_disk.specs.declared.disk.PageDisk.{Ghosts}
 use Rattle.blob_meta.specs.declared.meta.Meta.{Meta}
 use Rattle.md_chain.specs.declared.plan.PlannedPage.{PlannedPage}
@@ -23,7 +22,7 @@ use Rattle.running_store.specs.StoreView.{base_of, StoreView, state_of}
 use Rattle.running_store.specs.declared.replacements.Planned.{Planned}
 use Rattle.running_store.specs.declared.job.Serves.{Serves}
 use Rattle.running_store.specs.declared.replacements.Change.TheVariants as change
-use Rattle.metadata_turns.proofs.AtHead.{IsAtHead, TouchesHead}
+use Rattle.metadata_turns.proofs.AtHead.{IsAtHead}
 use Rattle.std.proofs.Math.Seq.{drop-length}
 use Rattle.metadata_turns.proofs.AtWork.{can, has_meta, head_low, head_page, well}
 use Rattle.running_store.proofs.Cleared.{among_get}
@@ -105,14 +104,6 @@ module _ {D : Type 0} (d : Ghosts D) (p : StoreView D) (serves : Serves) (planne
   pub planned_is : (x : PlannedPage) → slice_get planned.pages 0 ≡ Some x
       → page_in planned.pages planned.head ≡ x.page
   planned_is x first = head_page s at_work.running at_work.not_stopped serves planned old written more refl x first
-
-  pub touched : (disk : D) (x : PlannedPage) (at : ℕ) → at ≡ p.super.md_start + planned.head
-      → slice_get planned.pages 0 ≡ Some x
-      → CallsLeaveOnly d p.disk disk (IsReplaced (d.images p.disk) (d.now p.disk) at x.page)
-      → TouchesHead d p (replacing_of planned old) disk
-  touched disk x at at_is first touches = subst (λ page. CallsLeaveOnly d p.disk disk
-      (IsReplaced (d.images p.disk) (d.now p.disk) (p.super.md_start + planned.head) page)) (sym (planned_is x first))
-      (subst (λ n. CallsLeaveOnly d p.disk disk (IsReplaced (d.images p.disk) (d.now p.disk) n x.page)) at_is touches)
 
   pub at_head : IsMatchedFor serves planned → IsAtHead d p serves (change.Writes planned) old more j
   at_head fits = record { work = at_work; serves_is = refl; freezes = refl; todo = todo_is; fits = fits }

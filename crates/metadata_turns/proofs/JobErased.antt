@@ -1,6 +1,7 @@
 -- What a turn of a job makes of the store behind a replacement: old pages are erased, and given back with the last.
 use Rattle.std.proofs.Common.{◌≡◌, ◌≢◌, ℕ, suc, ◌+◌, ◌<◌, ◌≤◌, Bool, All, List, [], ◌∷◌, length, get_or, Option}
-use Rattle.std.proofs.Common.{Some, None, refl, sym, ◌∙◌, ap, subst, arith, add-one, inl, inr, IsTrue, true, false}
+use Rattle.std.proofs.Common.{Some, None, refl, sym, ◌∙◌, ap, subst, subst₂, arith, add-one, inl, inr, IsTrue, true}
+use Rattle.std.proofs.Common.{false}
 use Rattle.std.proofs.lemmas.Bool.{cases_lt}
 use Rattle.std.specs.Prelude.{slice_get, slice_set}
 use Rattle.bit_array.specs.Bits.{is_in}
@@ -87,14 +88,13 @@ module _ {D : Type 0} (d : Ghosts D) (p : StoreView D) (serves : Serves) (old : 
     module _ (disk : D) {content : List ℕ} (blank : content ≡ zero_page)
         (touches : CallsLeaveOnly d p.disk disk (Written (d.images p.disk) at Plain content)) where
       cleared : CallsLeaveOnly d p.disk disk (Written (d.images p.disk) (p.super.md_start + place) Plain zero_page)
-      cleared = subst (λ n. CallsLeaveOnly d p.disk disk (Written (d.images p.disk) n Plain zero_page)) at_is
-          (subst (λ page. CallsLeaveOnly d p.disk disk (Written (d.images p.disk) at Plain page)) blank touches)
+      cleared = subst₂
+          (λ n page. CallsLeaveOnly d p.disk disk (Written (d.images p.disk) n Plain page)) at_is blank touches
 
       moved : (clock : ℕ) → WritesOnePage d.tells (device_of d p.disk) at content clock (device_of d disk)
           → WritesOnePage d.tells (device_of d p.disk) (p.super.md_start + place) zero_page clock (device_of d disk)
-      moved clock moves =
-          subst (λ n. WritesOnePage d.tells (device_of d p.disk) n zero_page clock (device_of d disk)) at_is
-          (subst (λ page. WritesOnePage d.tells (device_of d p.disk) at page clock (device_of d disk)) blank moves)
+      moved clock moves = subst₂
+          (λ n page. WritesOnePage d.tells (device_of d p.disk) n page clock (device_of d disk)) at_is blank moves
 
       -- or that failed, be it the last one or not
       pub erase_failed : length p.rows ≡ 17 → FailsToReplace (device_of d p.disk) (device_of d disk)

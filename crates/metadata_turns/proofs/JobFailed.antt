@@ -29,7 +29,7 @@ use Rattle.running_store.proofs.Rowing.{state_logged, low_left}
 use Rattle.metadata_turns.specs.JobTurns.{stopped_at, with_job, IsAtWork, TurnsJob}
 use Rattle.metadata_turns.specs.Telling.{HasFailed, HasWaitingRow}
 use Rattle.metadata_turns.proofs.InsertFailed.{fails_insert, insert_disk, stopped_state, waits as waits_to_insert}
-use Rattle.metadata_turns.proofs.JobTurned.{entered, has_command}
+use Rattle.metadata_turns.proofs.WhatWaits.{entered, has_command}
 use Rattle.running_store.proofs.WorkLogged.{given_up_plainly, has_work}
 use Rattle.running_store.specs.GivingBack.{own}
 

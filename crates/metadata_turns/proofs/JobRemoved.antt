@@ -4,7 +4,6 @@ use Rattle.std.proofs.Common.{sym}
 use Rattle.std.proofs.Common.{subst, get_or}
 use Rattle.std.proofs.lemmas.Bool.{eq-eqb}
 use Rattle.bit_array.specs.Bits.{is_in}
-use Rattle.page_disk.specs.Moments.{CallsLeaveOnly, IsReplaced}
 use Rattle.page_disk.specs.declared.disk.PageDisk.{Ghosts}
 use Rattle.volume_model.specs.Volumes.{zero_page}
 use Rattle.store_model.specs.Jobs.{gained_by, CanReplace, JobStands}
@@ -22,7 +21,7 @@ use Rattle.running_store.specs.declared.job.Serves.TheVariants as whom
 use Rattle.running_store.specs.declared.replacements.Change.TheVariants as change
 use Rattle.running_store.specs.declared.replacements.Erasure.{Erasure}
 use Rattle.metadata_turns.proofs.AtWork.{well}
-use Rattle.metadata_turns.proofs.AtHead.{IsAtHead, TouchesHead}
+use Rattle.metadata_turns.proofs.AtHead.{IsAtHead}
 use Rattle.running_store.proofs.Cleared.{among_get}
 
 -- ---- whom it serves
@@ -80,11 +79,3 @@ module _ {D : Type 0} (d : Ghosts D) (p : StoreView D) (serves : Serves) (e : Er
   -- a page of zeros goes over the head's
   pub zeros_planned : page_in (erasure_of e old).planned e.head ≡ zero_page
   zeros_planned = rw (eq-eqb e.head e.head refl) refl
-
-  pub touched : (disk : D) (at : ℕ) → at ≡ p.super.md_start + e.head
-      → CallsLeaveOnly d p.disk disk (IsReplaced (d.images p.disk) (d.now p.disk) at zero_page)
-      → TouchesHead d p (erasure_of e old) disk
-  touched disk at at_is touches = subst (λ page. CallsLeaveOnly d p.disk disk
-      (IsReplaced (d.images p.disk) (d.now p.disk) (p.super.md_start + e.head) page)) (sym zeros_planned)
-      (subst (λ n. CallsLeaveOnly d p.disk disk (IsReplaced (d.images p.disk) (d.now p.disk) n zero_page)) at_is
-      touches)

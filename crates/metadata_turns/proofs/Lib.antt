@@ -1,10 +1,12 @@
 pub mod Answered
 pub mod Told
+pub mod PostedFirst
 pub mod AnswerMade
 pub mod AtWork
 pub mod InsertFailed
-pub mod JobTurned
+pub mod WhatWaits
 pub mod JobFailed
+pub mod FreshWritten
 pub mod AtHead
 pub mod HeadFailed
 pub mod Marked

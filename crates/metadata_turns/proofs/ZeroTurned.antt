@@ -1,6 +1,6 @@
 -- What a turn of a running job that overwrites a page of a claimed cluster makes of the store.
 use Rattle.std.proofs.Common.{Option, ◌≡◌, ℕ, ◌*◌, ◌/◌, ◌%◌, ◌<◌, Bool, true, false, List, [], ◌∷◌, ◌++◌}
-use Rattle.std.proofs.Common.{Some, refl, sym, ◌∙◌, ap, subst, arith, inr, drop}
+use Rattle.std.proofs.Common.{Some, refl, sym, ◌∙◌, ap, subst, subst₂, arith, inr, drop}
 use Rattle.std.specs.Prelude.{if◌then◌else◌, ◌||◌}
 use Rattle.std.proofs.lemmas.Nat.{div-add-mod', mul-add-lt}
 use Rattle.std.proofs.Math.Nat.{mod-lt}
@@ -110,10 +110,11 @@ module _ {D : Type 0} (d : Ghosts D) (p : StoreView D) (serves : Serves) (planne
   blank : d.tells ≡ false → (n : ℕ) → s.device.reads n ≡ zero_page
   blank silent n = ap (λ (told : Bool). (if told then d.now p.disk else (λ _. zero_page)) n) silent
 
-  module _ (disk : D) (at : ℕ) (at_is : at ≡ page)
-      (touches : CallsLeaveOnly d p.disk disk (Written (d.images p.disk) at Plain zero_page)) where
+  module _ (disk : D) (at : ℕ) (at_is : at ≡ page) {content : List ℕ} (content_is : content ≡ zero_page)
+      (touches : CallsLeaveOnly d p.disk disk (Written (d.images p.disk) at Plain content)) where
     touched : CallsLeaveOnly d p.disk disk (Written (d.images p.disk) page Plain zero_page)
-    touched = subst (λ n. CallsLeaveOnly d p.disk disk (Written (d.images p.disk) n Plain zero_page)) at_is touches
+    touched = subst₂
+        (λ n l. CallsLeaveOnly d p.disk disk (Written (d.images p.disk) n Plain l)) at_is content_is touches
 
     pub failed_zeroing : FailsToReplace (device_of d p.disk) (device_of d disk) → (q : StoreView D)
         → {told : Option ℕ} → told ≡ waits_for_job j
@@ -136,7 +137,7 @@ module _ {D : Type 0} (d : Ghosts D) (p : StoreView D) (serves : Serves) (planne
         by (whom.Insert channel) e = absurd (subst (λ (x : Serves). IsZeroedFor x planned z) e zeroed)
         by whom.Repair e = absurd (subst (λ (x : Serves). IsZeroedFor x planned z) e zeroed)
 
-    pub zeroed_one : WritesOnePage d.tells (device_of d p.disk) at zero_page 1 (device_of d disk) → (k : JobState)
+    pub zeroed_one : WritesOnePage d.tells (device_of d p.disk) at content 1 (device_of d disk) → (k : JobState)
         → k ≡ behind_zero j → TurnsJob d (with_job p j) (record p { disk = disk; job = Some k })
     zeroed_one moves k is = record {
       kind = kind.zeroes;
@@ -147,7 +148,8 @@ module _ {D : Type 0} (d : Ghosts D) (p : StoreView D) (serves : Serves) (planne
           running = record { job = j; is = refl; rest = others; next = todo_is; runs = w.not_stopped };
           blank = blank;
           device = device_of d disk;
-          moves = subst (λ n. WritesOnePage d.tells (device_of d p.disk) n zero_page 1 (device_of d disk)) at_is moves;
+          moves = subst₂ (λ n l. WritesOnePage d.tells (device_of d p.disk) n l 1 (device_of d disk)) at_is content_is
+              moves;
           next = ap (λ (x : JobState). record s { job = Some x; device = device_of d disk }) is;
         },
         record { moments = touched; durable = λ never. absurd (cc never) },

@@ -1,29 +1,24 @@
 use Rattle.std.proofs.Common.{◌≡◌, ◌≤◌, ◌+◌, ℕ, List, sym, ◌∙◌, ap, refl, subst, arith}
 use Rattle.std.specs.Prelude.{false, slice_set}
-use Rattle.page_disk.specs.Moments.{CallsLeaveOnly, IsReplaced}
-use Rattle.page_disk.specs.declared.disk.PageDisk.{Ghosts}
-use Rattle.volume_model.specs.Volumes.{zero_page}
-use Rattle.store_model.specs.Cases.{WritesOnePage}
 use Rattle.store_model.specs.Maps.{Metas}
-use Rattle.store_model.specs.Rows.{Row}
 use Rattle.running_store.specs.Blobs.{blobs_behind, blobs_of}
-use Rattle.running_store.specs.Jobs.{phases_in, removing_for}
+use Rattle.running_store.specs.Jobs.{erasure_of, phases_in, removing_for}
 use Rattle.running_store.specs.Running.{view_of, AreHeadPlaces, InOrder}
 use Rattle.running_store.specs.Stages.{stage_seen}
-use Rattle.running_store.specs.StoreView.{base_of, device_of}
+use Rattle.running_store.specs.StoreView.{base_of}
 use Rattle.running_store.specs.declared.replacements.Change.TheVariants as change
 use Rattle.running_store.specs.declared.running.Running.{Running}
 use Rattle.running_store.proofs.BaseBehind.{base_behind}
 use Rattle.running_store.proofs.PlainFacts.{on_err, on_ok, zeros}
 use Rattle.running_store.proofs.Without.{heads_gone}
-use Rattle.metadata_turns.specs.Telling.{job_gone_on, HasServedRow}
+use Rattle.metadata_turns.specs.Telling.{job_gone_on}
 use Rattle.metadata_turns.proofs.Behind.{left_seen}
-use Rattle.metadata_turns.proofs.AtHead.{told_row}
+use Rattle.metadata_turns.proofs.AtHead.{moves_head, row_told, touches_head}
 use Rattle.metadata_turns.proofs.HeadFailed.{head_failed}
 use Rattle.metadata_turns.proofs.HeadMade.{head_made}
 use Rattle.metadata_turns.proofs.HeadReplaced.{comes_alone, kept_left}
 use Rattle.metadata_turns.proofs.JobFailed.{waiting_row}
-use Rattle.metadata_turns.proofs.JobRemoved.{at_head, freed_in_use, head_below, once, page_used, touched, unfrozen}
+use Rattle.metadata_turns.proofs.JobRemoved.{at_head, freed_in_use, head_below, once, page_used, unfrozen}
 use Rattle.metadata_turns.proofs.JobRemoved.{zeros_planned}
 use Rattle.metadata_turns.proofs.head_turns.remove_head.Goals as goal
 
@@ -41,13 +36,6 @@ fail_job-requires-clause-row g c =
     c.args.beside.old (phases_in c.args.beside.later.items)) c.requires.at_work c.requires.order.seventeen
     c.requires.waits
 
--- what is known of its device calls
-abbrev replaced : {D : Type 0} (d : Ghosts D) (old new : D) (at : ℕ) (page : List ℕ)
-    → page ≡ zero_page → CallsLeaveOnly d old new (IsReplaced (d.images old) (d.now old) at page)
-    → CallsLeaveOnly d old new (IsReplaced (d.images old) (d.now old) at zero_page)
-replaced d old new at page is touches =
-    subst (λ x. CallsLeaveOnly d old new (IsReplaced (d.images old) (d.now old) at x)) is touches
-
 pub returns-then-is_err-clause-case : goal.returns-then-is_err-clause-case
 returns-then-is_err-clause-case g c =
     let d = g.D.PageDisk in
@@ -58,8 +46,8 @@ returns-then-is_err-clause-case g c =
     let serves = c.args.beside.serves in
     let job = removing_for serves c.args.erasure old more in
     head_failed d p (change.Erases c.args.erasure) old more job disk
-    (touched d p serves c.args.erasure old more c.requires.at_work disk c.page_at-page.result c.page_at-page.ensures
-    (replaced d c.args.running.now.disk disk c.page_at-page.result _ zeros c.replace.ensures.any_moment))
+    (touches_head d p (erasure_of c.args.erasure old) disk c.page_at-page.ensures
+    (zeros ∙ sym (zeros_planned d p serves c.args.erasure old more c.requires.at_work)) c.replace.ensures.any_moment)
     serves (at_head d p serves c.args.erasure old more c.requires.at_work c.requires.removed)
     c.requires.order.seventeen
     (on_err c.replace.result _ (sym c.is_err.ensures.value ∙ c.if-is_err.true) c.replace.ensures.fails)
@@ -96,12 +84,10 @@ tell-requires-clause-row g c =
     let old = c.args.beside.old in
     let more = phases_in c.args.beside.later.items in
     let serves = c.args.beside.serves in
-    subst (λ (rows : List Row). HasServedRow rows serves c.reply-reply.result)
-    (sym (ap (λ (r : Running g.row.D.Denot). (view_of r).rows) c.go_on.ensures
-    ∙ ap (λ (r : Running g.row.D.Denot). (view_of r).rows) c.forget.ensures))
-    (subst (HasServedRow p.rows serves) (sym c.reply-reply.ensures)
-    (told_row d p (change.Erases c.args.erasure) old more (removing_for serves c.args.erasure old more) serves
-    (at_head d p serves c.args.erasure old more c.requires.at_work c.requires.removed) c.requires.order.seventeen))
+    row_told d p (change.Erases c.args.erasure) old more (removing_for serves c.args.erasure old more) serves
+    (at_head d p serves c.args.erasure old more c.requires.at_work c.requires.removed) c.requires.order.seventeen
+    (ap (λ (r : Running g.row.D.Denot). (view_of r).rows) c.go_on.ensures
+    ∙ ap (λ (r : Running g.row.D.Denot). (view_of r).rows) c.forget.ensures) c.reply-reply.ensures
 
 pub tell-requires-clause-order : goal.tell-requires-clause-order
 tell-requires-clause-order g c =
@@ -146,9 +132,9 @@ returns-clause-case g c =
     let serves = c.args.beside.serves in
     let e = c.args.erasure in
     let w = c.requires.at_work in
+    let blank = zeros ∙ sym (zeros_planned d p serves e old more w) in
     head_made d p (change.Erases e) old more (removing_for serves e old more) disk
-    (touched d p serves e old more w disk c.page_at-page.result c.page_at-page.ensures
-    (replaced d c.args.running.now.disk disk c.page_at-page.result _ zeros c.replace.ensures.any_moment))
+    (touches_head d p (erasure_of e old) disk c.page_at-page.ensures blank c.replace.ensures.any_moment)
     c.requires.kept.0 (unfrozen d p serves e old more w c.requires.removed) (view_of c.tell.new.running) serves
     (at_head d p serves e old more w c.requires.removed) (record {
       left = _;
@@ -163,13 +149,8 @@ returns-clause-case g c =
       reply = c.reply-reply.result;
       reply_is = c.reply-reply.ensures;
       told = c.tell.ensures.told;
-      moves = subst (λ page. WritesOnePage d.tells (device_of d p.disk) (p.super.md_start + e.head) page 3
-          (device_of d disk)) (sym (zeros_planned d p serves e old more w))
-          (subst (λ n. WritesOnePage d.tells (device_of d p.disk) n zero_page 3 (device_of d disk))
-          c.page_at-page.ensures
-          (subst (λ page. WritesOnePage d.tells (device_of d c.args.running.now.disk) c.page_at-page.result page 3
-          (device_of d disk)) zeros
-          (on_ok c.replace.result _ (sym c.is_err.ensures.value ∙ c.if-is_err.false) c.replace.ensures.moves)));
+      moves = moves_head d p (erasure_of e old) disk c.page_at-page.ensures blank
+          (on_ok c.replace.result _ (sym c.is_err.ensures.value ∙ c.if-is_err.false) c.replace.ensures.moves);
       durable = λ tells. on_ok c.replace.result _ (sym c.is_err.ensures.value ∙ c.if-is_err.false)
           (c.replace.ensures.durable tells);
     })

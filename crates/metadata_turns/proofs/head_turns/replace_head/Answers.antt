@@ -1,17 +1,14 @@
 use Rattle.std.proofs.Common.{◌≡◌, ℕ, ◌+◌, ◌≤◌, [], List, length, get_or, drop, sym, ◌∙◌, ap, refl, subst, arith}
 use Rattle.std.specs.Prelude.{if◌then◌else◌, is_some, slice_set, true}
-use Rattle.page_disk.specs.Moments.{IsReplaced, CallsLeaveOnly}
 use Rattle.page_disk.specs.declared.disk.PageDisk.{Ghosts}
 use Rattle.md_chain.specs.declared.plan.PlannedPage.{PlannedPage}
-use Rattle.store_model.specs.Cases.{WritesOnePage}
 use Rattle.store_model.specs.Maps.{Metas}
 use Rattle.store_model.specs.Phases.{page_in, Phase}
-use Rattle.store_model.specs.Rows.{Row}
 use Rattle.running_store.specs.Blobs.{blobs_behind, blobs_of}
 use Rattle.running_store.specs.Jobs.{phases_in, replacing_of}
 use Rattle.running_store.specs.Running.{view_of, AreHeadPlaces, InOrder}
 use Rattle.running_store.specs.Stages.{stage_seen}
-use Rattle.running_store.specs.StoreView.{base_of, device_of, StoreView}
+use Rattle.running_store.specs.StoreView.{base_of, StoreView}
 use Rattle.running_store.specs.declared.job.Serves.{Serves}
 use Rattle.running_store.specs.declared.replacements.Change.TheVariants as change
 use Rattle.running_store.specs.declared.replacements.Planned.{Planned}
@@ -20,15 +17,15 @@ use Rattle.running_store.proofs.BaseBehind.{base_behind}
 use Rattle.running_store.proofs.Maps.{heads_adopted}
 use Rattle.running_store.proofs.PlainFacts.{got, on_err, on_ok}
 use Rattle.metadata_turns.specs.JobTurns.{IsAtWork}
-use Rattle.metadata_turns.specs.Telling.{job_gone_on, HasServedRow}
+use Rattle.metadata_turns.specs.Telling.{job_gone_on}
 use Rattle.metadata_turns.proofs.Behind.{left_seen}
-use Rattle.metadata_turns.proofs.AtHead.{told_row, TouchesHead}
+use Rattle.metadata_turns.proofs.AtHead.{moves_head, row_told, touches_head}
 use Rattle.metadata_turns.proofs.HeadFailed.{head_failed}
 use Rattle.metadata_turns.proofs.HeadMade.{head_made}
 use Rattle.metadata_turns.proofs.HeadReplaced.{at_head, base_there, comes_alone, freed_in_use, head_below, kept_left}
-use Rattle.metadata_turns.proofs.HeadReplaced.{matched, now, planned_is, touched}
+use Rattle.metadata_turns.proofs.HeadReplaced.{matched, now, planned_is}
 use Rattle.metadata_turns.proofs.JobFailed.{waiting_row}
-use Rattle.metadata_turns.proofs.JobTurned.{planned_some}
+use Rattle.metadata_turns.proofs.FreshWritten.{planned_some}
 use Rattle.metadata_turns.proofs.head_turns.replace_head.Goals as goal
 
 -- the head's page of the plan
@@ -57,31 +54,14 @@ fail_job-requires-clause-row g c =
     c.args.beside.old (phases_in c.args.beside.later.items)) c.requires.at_work c.requires.order.seventeen
     c.requires.waits
 
--- the head's page is replaced on this device
-touches_head : {D : Type 0} (d : Ghosts D) (p : StoreView D) (serves : Serves) (planned : Planned) (old : List ℕ)
-    (more : List Phase) (disk : D) (w : IsAtWork d p (now serves planned old more)) (at : ℕ)
-    → at ≡ p.super.md_start + planned.head → (plan : List PlannedPage) → plan ≡ planned.pages
-    → CallsLeaveOnly d p.disk disk (IsReplaced (d.images p.disk) (d.now p.disk) at (first plan).page)
-    → TouchesHead d p (replacing_of planned old) disk
-touches_head d p serves planned old more disk w at at_is plan same touches =
-    touched d p serves planned old more w disk (first planned.pages) at at_is
-    (got planned.pages 0 _ (planned_some d p serves planned old (length (drop 1 planned.chain)) more w))
-    (subst (λ (l : List PlannedPage). CallsLeaveOnly d p.disk disk
-    (IsReplaced (d.images p.disk) (d.now p.disk) at (first l).page)) same touches)
-
-moves_head : {D : Type 0} (d : Ghosts D) (p : StoreView D) (serves : Serves) (planned : Planned) (old : List ℕ)
-    (more : List Phase) (disk : D) (w : IsAtWork d p (now serves planned old more)) (at : ℕ)
-    → at ≡ p.super.md_start + planned.head → (plan : List PlannedPage) → plan ≡ planned.pages
-    → WritesOnePage d.tells (device_of d p.disk) at (first plan).page 3 (device_of d disk)
-    → WritesOnePage d.tells (device_of d p.disk) (p.super.md_start + planned.head) (page_in planned.pages planned.head)
-    3 (device_of d disk)
-moves_head d p serves planned old more disk w at at_is plan same moves =
-    subst (λ page. WritesOnePage d.tells (device_of d p.disk) (p.super.md_start + planned.head) page 3
-    (device_of d disk)) (sym (planned_is d p serves planned old more w (first planned.pages)
-    (got planned.pages 0 _ (planned_some d p serves planned old (length (drop 1 planned.chain)) more w))))
-    (subst (λ n. WritesOnePage d.tells (device_of d p.disk) n (first planned.pages).page 3 (device_of d disk)) at_is
-    (subst (λ (l : List PlannedPage). WritesOnePage d.tells (device_of d p.disk) at (first l).page 3
-    (device_of d disk)) same moves))
+-- it is what is planned for the head
+first_planned : {D : Type 0} (d : Ghosts D) (p : StoreView D) (serves : Serves) (planned : Planned) (old : List ℕ)
+    (more : List Phase) → IsAtWork d p (now serves planned old more) → {plan : List PlannedPage}
+    → plan ≡ planned.pages → (first plan).page ≡ page_in planned.pages planned.head
+first_planned d p serves planned old more w same =
+    ap (λ (l : List PlannedPage). (first l).page) same
+    ∙ sym (planned_is d p serves planned old more w (first planned.pages)
+    (got planned.pages 0 _ (planned_some d p serves planned old (length (drop 1 planned.chain)) more w)))
 
 pub returns-then-is_err-clause-case : goal.returns-then-is_err-clause-case
 returns-then-is_err-clause-case g c =
@@ -92,8 +72,9 @@ returns-then-is_err-clause-case g c =
     let more = phases_in c.args.beside.later.items in
     let job = now c.args.beside.serves c.args.planned old more in
     head_failed d p (change.Writes c.args.planned) old more job disk
-    (touches_head d p c.args.beside.serves c.args.planned old more disk c.requires.at_work c.page_at-page.result
-    c.page_at-page.ensures _ c.as_slice.ensures c.replace.ensures.any_moment)
+    (touches_head d p (replacing_of c.args.planned old) disk c.page_at-page.ensures
+    (first_planned d p c.args.beside.serves c.args.planned old more c.requires.at_work c.as_slice.ensures)
+    c.replace.ensures.any_moment)
     c.args.beside.serves
     (at_head d p c.args.beside.serves c.args.planned old more c.requires.at_work c.requires.matched)
     c.requires.order.seventeen
@@ -161,12 +142,10 @@ tell-requires-clause-row g c =
     let old = c.args.beside.old in
     let more = phases_in c.args.beside.later.items in
     let serves = c.args.beside.serves in
-    subst (λ (rows : List Row). HasServedRow rows serves c.reply-reply.result)
-    (sym (ap (λ (r : Running g.row.D.Denot). (view_of r).rows) c.go_on.ensures
-    ∙ ap (λ (r : Running g.row.D.Denot). (view_of r).rows) c.adopt.ensures))
-    (subst (HasServedRow p.rows serves) (sym c.reply-reply.ensures)
-    (told_row d p (change.Writes c.args.planned) old more (now serves c.args.planned old more) serves
-    (at_head d p serves c.args.planned old more c.requires.at_work c.requires.matched) c.requires.order.seventeen))
+    row_told d p (change.Writes c.args.planned) old more (now serves c.args.planned old more) serves
+    (at_head d p serves c.args.planned old more c.requires.at_work c.requires.matched) c.requires.order.seventeen
+    (ap (λ (r : Running g.row.D.Denot). (view_of r).rows) c.go_on.ensures
+    ∙ ap (λ (r : Running g.row.D.Denot). (view_of r).rows) c.adopt.ensures) c.reply-reply.ensures
 
 pub returns-clause-case : goal.returns-clause-case
 returns-clause-case g c =
@@ -177,9 +156,10 @@ returns-clause-case g c =
     let old = c.args.beside.old in
     let more = phases_in later in
     let serves = c.args.beside.serves in
+    let page = first_planned d p serves c.args.planned old more c.requires.at_work c.as_slice.ensures in
     head_made d p (change.Writes c.args.planned) old more (now serves c.args.planned old more) disk
-    (touches_head d p serves c.args.planned old more disk c.requires.at_work c.page_at-page.result
-    c.page_at-page.ensures _ c.as_slice.ensures c.replace.ensures.any_moment) c.requires.kept.0
+    (touches_head d p (replacing_of c.args.planned old) disk c.page_at-page.ensures page c.replace.ensures.any_moment)
+    c.requires.kept.0
     (matched serves c.args.planned c.requires.matched).headed (view_of c.tell.new.running) serves
     (at_head d p serves c.args.planned old more c.requires.at_work c.requires.matched) (record {
       left = _;
@@ -194,8 +174,7 @@ returns-clause-case g c =
       reply = c.reply-reply.result;
       reply_is = c.reply-reply.ensures;
       told = c.tell.ensures.told;
-      moves = moves_head d p serves c.args.planned old more disk c.requires.at_work c.page_at-page.result
-          c.page_at-page.ensures _ c.as_slice.ensures
+      moves = moves_head d p (replacing_of c.args.planned old) disk c.page_at-page.ensures page
           (on_ok c.replace.result _ (sym c.is_err.ensures.value ∙ c.if-is_err.false) c.replace.ensures.moves);
       durable = λ tells. on_ok c.replace.result _ (sym c.is_err.ensures.value ∙ c.if-is_err.false)
           (c.replace.ensures.durable tells);

@@ -23,6 +23,11 @@ with_work j w = record j { marks = false; work = w }
 seen_work : (j : RunningJob) (w : Work) → j.marks ≡ false → j.work ≡ w → job_seen j ≡ job_seen (with_work j w)
 seen_work j w none is = ap (λ b. job_seen (record j { marks = b })) none ∙ ap (λ v. job_seen (with_work j v)) is
 
+-- a turn of it is one of the job whose work this is
+turned : {D : Type 0} {d : Ghosts D} {q : StoreView D} (p : StoreView D) (j : RunningJob) {w : Work} → j.marks ≡ false
+    → j.work ≡ w → TurnsJob d (with_job p (job_seen (with_work j w))) q → TurnsJob d (with_job p (job_seen j)) q
+turned {D} {d} {q} p j {w} none is = subst (λ k. TurnsJob d (with_job p k) q) (sym (seen_work j w none is))
+
 -- what is known of a job that a channel or a row may wait for
 record IsKnown {D : Type 0} (d : Ghosts D) (p : StoreView D) (blobs : Blobs) (waiting : Option ℕ) (j : RunningJob)
     : Type 0 where
@@ -32,10 +37,10 @@ record IsKnown {D : Type 0} (d : Ghosts D) (p : StoreView D) (blobs : Blobs) (wa
   at_work : IsAtWork d p (job_seen j)
 
 -- it is known of the job with this work
-known_work : {D : Type 0} (d : Ghosts D) (p : StoreView D) (blobs : Blobs) {waiting : Option ℕ} (j : RunningJob)
+known_work : {D : Type 0} {d : Ghosts D} {p : StoreView D} (blobs : Blobs) {waiting : Option ℕ} (j : RunningJob)
     {w : Work} → IsHeaded j → waiting ≡ waits_for_job (job_seen j) → WillBeKept blobs j → IsAtWork d p (job_seen j)
     → j.marks ≡ false → j.work ≡ w → IsKnown d p blobs waiting (with_work j w)
-known_work d p blobs {waiting} j headed waits kept at_work none is =
+known_work {D} {d} {p} blobs {waiting} j headed waits kept at_work none is =
     subst (λ v. IsKnown d p blobs waiting (with_work j v)) is
     (subst (λ b. IsKnown d p blobs waiting (record j { marks = b })) none
     (record { headed = headed; waits = waits; kept = kept; at_work = at_work }))
@@ -70,21 +75,26 @@ all_written serves planned old written more le =
     dropped (x ∷ xs) zero le = absurd (omega (arith, le))
     dropped (x ∷ xs) (suc n) le = dropped xs n (omega (arith, le))
 
--- no fresh page is left where all but the head of the plan are written
-no_fresh : {D : Type 0} (d : Ghosts D) (p : StoreView D) (serves : Serves) (planned : Planned) (old : List ℕ)
-    (written : ℕ) (more : List Phase) → IsAtWork d p (writing_for serves planned old written more)
-    → (pages : ℕ) → pages ≡ length planned.pages → pages - 1 ≤ written
-    → writing_for serves planned old written more ≡ writing_for serves planned old (length (drop 1 planned.chain)) more
-no_fresh d p serves planned old written more at pages pages_are none =
-    let now = writing_for serves planned old written more in
-    let all = pages_planned (state_of d (with_job p now)) at.running at.not_stopped serves planned old written more refl
-    in
-    all_written serves planned old written more (omega (arith, all, pages_are, none))
+module _ {D : Type 0} {d : Ghosts D} {p : StoreView D} (j : RunningJob) (planned : Planned) (written : ℕ)
+    (w : IsAtWork d p (writing_for j.serves planned j.old written (phases_in j.later.items))) where
+  -- the plan has a page for the head, and one for each fresh place
+  all_planned : length planned.pages ≡ suc (length (drop 1 planned.chain))
+  all_planned =
+      pages_planned (state_of d (with_job p (writing_for j.serves planned j.old written (phases_in j.later.items))))
+      w.running w.not_stopped j.serves planned j.old written (phases_in j.later.items) refl
+
+  -- no fresh page is left where all but the head of the plan are written
+  no_fresh : (pages : ℕ) → pages ≡ length planned.pages → pages - 1 ≤ written
+      → writing_for j.serves planned j.old written (phases_in j.later.items)
+      ≡ writing_for j.serves planned j.old (length (drop 1 planned.chain)) (phases_in j.later.items)
+  no_fresh pages pages_are none =
+      let all = all_planned in
+      all_written j.serves planned j.old written (phases_in j.later.items) (omega (arith, all, pages_are, none))
 
 pub zero-requires : goal.zero-requires
 zero-requires g c =
-    let x = known_work g.D.PageDisk (view_of c.args.running.now) (blobs_of c.args.running.now) c.args.job
-    c.requires.headed c.requires.waits c.requires.kept c.requires.at_work c.requires.unmarked c.in-Zeroing.is in
+    let x = known_work (blobs_of c.args.running.now) c.args.job c.requires.headed c.requires.waits c.requires.kept
+    c.requires.at_work c.requires.unmarked c.in-Zeroing.is in
     record {
       order = c.requires.order;
       zeroed = x.headed.0;
@@ -96,20 +106,16 @@ zero-requires g c =
 
 pub overflow_sub-fresh : goal.overflow_sub-fresh
 overflow_sub-fresh g c =
-    let x = known_work g.D.PageDisk (view_of c.args.running.now) (blobs_of c.args.running.now) c.args.job
-    c.requires.headed c.requires.waits c.requires.kept c.requires.at_work c.requires.unmarked c.in-Writing.is in
-    let now = writing_for c.args.job.serves c.in-Writing.planned c.args.job.old c.in-Writing.written
-    (phases_in c.args.job.later.items) in
-    let pages = pages_planned (state_of g.D.PageDisk (with_job (view_of c.args.running.now) now)) x.at_work.running
-    x.at_work.not_stopped c.args.job.serves c.in-Writing.planned c.args.job.old c.in-Writing.written
-    (phases_in c.args.job.later.items) refl in
+    let x = known_work (blobs_of c.args.running.now) c.args.job c.requires.headed c.requires.waits c.requires.kept
+    c.requires.at_work c.requires.unmarked c.in-Writing.is in
+    let all = all_planned c.args.job c.in-Writing.planned c.in-Writing.written x.at_work in
     let len = c.len-fresh.ensures in
-    omega (arith, pages, len)
+    omega (arith, all, len)
 
 pub write_fresh-requires : goal.write_fresh-requires
 write_fresh-requires g c =
-    let x = known_work g.D.PageDisk (view_of c.args.running.now) (blobs_of c.args.running.now) c.args.job
-    c.requires.headed c.requires.waits c.requires.kept c.requires.at_work c.requires.unmarked c.in-Writing.is in
+    let x = known_work (blobs_of c.args.running.now) c.args.job c.requires.headed c.requires.waits c.requires.kept
+    c.requires.at_work c.requires.unmarked c.in-Writing.is in
     record {
       order = c.requires.order;
       matched = x.headed.0;
@@ -122,11 +128,10 @@ write_fresh-requires g c =
 
 pub replace_head-requires : goal.replace_head-requires
 replace_head-requires g c =
-    let x = known_work g.D.PageDisk (view_of c.args.running.now) (blobs_of c.args.running.now) c.args.job
-    c.requires.headed c.requires.waits c.requires.kept c.requires.at_work c.requires.unmarked c.in-Writing.is in
-    let all = no_fresh g.D.PageDisk (view_of c.args.running.now) c.args.job.serves c.in-Writing.planned c.args.job.old
-    c.in-Writing.written (phases_in c.args.job.later.items) x.at_work c.len-fresh.result c.len-fresh.ensures
-    c.if-written-fresh.false in
+    let x = known_work (blobs_of c.args.running.now) c.args.job c.requires.headed c.requires.waits c.requires.kept
+    c.requires.at_work c.requires.unmarked c.in-Writing.is in
+    let all = no_fresh c.args.job c.in-Writing.planned c.in-Writing.written x.at_work c.len-fresh.result
+    c.len-fresh.ensures c.if-written-fresh.false in
     record {
       order = c.requires.order;
       matched = x.headed.0;
@@ -138,8 +143,8 @@ replace_head-requires g c =
 
 pub remove_head-requires : goal.remove_head-requires
 remove_head-requires g c =
-    let x = known_work g.D.PageDisk (view_of c.args.running.now) (blobs_of c.args.running.now) c.args.job
-    c.requires.headed c.requires.waits c.requires.kept c.requires.at_work c.requires.unmarked c.in-Removing.is in
+    let x = known_work (blobs_of c.args.running.now) c.args.job c.requires.headed c.requires.waits c.requires.kept
+    c.requires.at_work c.requires.unmarked c.in-Removing.is in
     record {
       order = c.requires.order;
       removed = x.headed.0;
@@ -151,16 +156,16 @@ remove_head-requires g c =
 
 pub overflow_sub-last : goal.overflow_sub-last
 overflow_sub-last g c =
-    let x = known_work g.D.PageDisk (view_of c.args.running.now) (blobs_of c.args.running.now) c.args.job
-    c.requires.headed c.requires.waits c.requires.kept c.requires.at_work c.requires.unmarked c.in-Erasing.is in
+    let x = known_work (blobs_of c.args.running.now) c.args.job c.requires.headed c.requires.waits c.requires.kept
+    c.requires.at_work c.requires.unmarked c.in-Erasing.is in
     let some = x.headed.0 in
     let len = c.len-last.ensures in
     omega (arith, some, len)
 
 pub erase-requires : goal.erase-requires
 erase-requires g c =
-    let x = known_work g.D.PageDisk (view_of c.args.running.now) (blobs_of c.args.running.now) c.args.job
-    c.requires.headed c.requires.waits c.requires.kept c.requires.at_work c.requires.unmarked c.in-Erasing.is in
+    let x = known_work (blobs_of c.args.running.now) c.args.job c.requires.headed c.requires.waits c.requires.kept
+    c.requires.at_work c.requires.unmarked c.in-Erasing.is in
     record {
       order = c.requires.order;
       follows = x.headed.1;
@@ -172,8 +177,8 @@ erase-requires g c =
 
 pub free-requires : goal.free-requires
 free-requires g c =
-    let x = known_work g.D.PageDisk (view_of c.args.running.now) (blobs_of c.args.running.now) c.args.job
-    c.requires.headed c.requires.waits c.requires.kept c.requires.at_work c.requires.unmarked c.in-Erasing.is in
+    let x = known_work (blobs_of c.args.running.now) c.args.job c.requires.headed c.requires.waits c.requires.kept
+    c.requires.at_work c.requires.unmarked c.in-Erasing.is in
     let some = x.headed.0 in
     let len = c.len-last.ensures in
     let none = c.if-erased-last.false in
@@ -188,35 +193,31 @@ free-requires g c =
 
 pub returns-else-written-fresh-clause-case : goal.returns-else-written-fresh-clause-case
 returns-else-written-fresh-clause-case g c =
-    let x = known_work g.D.PageDisk (view_of c.args.running.now) (blobs_of c.args.running.now) c.args.job
-    c.requires.headed c.requires.waits c.requires.kept c.requires.at_work c.requires.unmarked c.in-Writing.is in
-    let all = no_fresh g.D.PageDisk (view_of c.args.running.now) c.args.job.serves c.in-Writing.planned c.args.job.old
-    c.in-Writing.written (phases_in c.args.job.later.items) x.at_work c.len-fresh.result c.len-fresh.ensures
-    c.if-written-fresh.false in
-    subst (λ k. TurnsJob g.D.PageDisk (with_job (view_of c.args.running.now) k) (view_of c.replace_head.new.running))
-    (sym (seen_work c.args.job _ c.requires.unmarked c.in-Writing.is ∙ all)) c.replace_head.ensures.case
+    let x = known_work (blobs_of c.args.running.now) c.args.job c.requires.headed c.requires.waits c.requires.kept
+    c.requires.at_work c.requires.unmarked c.in-Writing.is in
+    let all = no_fresh c.args.job c.in-Writing.planned c.in-Writing.written x.at_work c.len-fresh.result
+    c.len-fresh.ensures c.if-written-fresh.false in
+    let p = view_of c.args.running.now in
+    turned p c.args.job c.requires.unmarked c.in-Writing.is
+    (subst (λ k. TurnsJob g.D.PageDisk (with_job p k) (view_of c.replace_head.new.running)) (sym all)
+    c.replace_head.ensures.case)
 
 pub returns-then-written-fresh-clause-case : goal.returns-then-written-fresh-clause-case
 returns-then-written-fresh-clause-case g c =
-    subst (λ k. TurnsJob g.D.PageDisk (with_job (view_of c.args.running.now) k) (view_of c.write_fresh.new.running))
-    (sym (seen_work c.args.job _ c.requires.unmarked c.in-Writing.is)) c.write_fresh.ensures.case
+    turned (view_of c.args.running.now) c.args.job c.requires.unmarked c.in-Writing.is c.write_fresh.ensures.case
 
 pub returns-in-Zeroing-clause-case : goal.returns-in-Zeroing-clause-case
 returns-in-Zeroing-clause-case g c =
-    subst (λ k. TurnsJob g.D.PageDisk (with_job (view_of c.args.running.now) k) (view_of c.zero.new.running))
-    (sym (seen_work c.args.job _ c.requires.unmarked c.in-Zeroing.is)) c.zero.ensures.case
+    turned (view_of c.args.running.now) c.args.job c.requires.unmarked c.in-Zeroing.is c.zero.ensures.case
 
 pub returns-in-Removing-clause-case : goal.returns-in-Removing-clause-case
 returns-in-Removing-clause-case g c =
-    subst (λ k. TurnsJob g.D.PageDisk (with_job (view_of c.args.running.now) k) (view_of c.remove_head.new.running))
-    (sym (seen_work c.args.job _ c.requires.unmarked c.in-Removing.is)) c.remove_head.ensures.case
+    turned (view_of c.args.running.now) c.args.job c.requires.unmarked c.in-Removing.is c.remove_head.ensures.case
 
 pub returns-then-erased-last-clause-case : goal.returns-then-erased-last-clause-case
 returns-then-erased-last-clause-case g c =
-    subst (λ k. TurnsJob g.D.PageDisk (with_job (view_of c.args.running.now) k) (view_of c.erase.new.running))
-    (sym (seen_work c.args.job _ c.requires.unmarked c.in-Erasing.is)) c.erase.ensures.case
+    turned (view_of c.args.running.now) c.args.job c.requires.unmarked c.in-Erasing.is c.erase.ensures.case
 
 pub returns-else-erased-last-clause-case : goal.returns-else-erased-last-clause-case
 returns-else-erased-last-clause-case g c =
-    subst (λ k. TurnsJob g.D.PageDisk (with_job (view_of c.args.running.now) k) (view_of c.free.new.running))
-    (sym (seen_work c.args.job _ c.requires.unmarked c.in-Erasing.is)) c.free.ensures.case
+    turned (view_of c.args.running.now) c.args.job c.requires.unmarked c.in-Erasing.is c.free.ensures.case

@@ -1,12 +1,7 @@
 use Rattle.std.proofs.Common.{◌≤◌, ◌+◌, ◌∙◌, sym, subst, arith}
-use Rattle.page_disk.specs.Disk.{Written}
-use Rattle.page_disk.specs.Moments.{CallsLeaveOnly}
-use Rattle.page_disk.specs.declared.disk.WriteKind.TheVariants.{Plain}
-use Rattle.store_model.specs.Cases.{WritesOnePage}
 use Rattle.running_store.specs.Blobs.{blobs_of, CanAllBeKept}
 use Rattle.running_store.specs.Jobs.{phases_in, zeroing_for}
 use Rattle.running_store.specs.Running.{view_of}
-use Rattle.running_store.specs.StoreView.{device_of}
 use Rattle.running_store.proofs.PlainFacts.{on_err, on_ok, zeros}
 use Rattle.metadata_turns.proofs.JobFailed.{waiting_row}
 use Rattle.metadata_turns.proofs.ZeroTurned.{failed_zeroing, page_low, zeroed_one}
@@ -31,10 +26,7 @@ returns-then-is_err-clause-case g c =
     failed_zeroing g.D.PageDisk (view_of c.args.running.now) c.args.beside.serves c.args.planned
     c.args.beside.old c.args.zeroed (phases_in c.args.beside.later.items) c.requires.at_work c.requires.zeroed
     c.write_one.new.disk
-    c.next_page-page.result c.next_page-page.ensures
-    (subst (λ page. CallsLeaveOnly g.D.PageDisk c.args.running.now.disk c.write_one.new.disk
-    (Written (g.D.PageDisk.images c.args.running.now.disk) c.next_page-page.result Plain page)) zeros
-    c.write_one.ensures.any_moment)
+    c.next_page-page.result c.next_page-page.ensures zeros c.write_one.ensures.any_moment
     (on_err c.write_one.result _ (sym c.is_err.ensures.value ∙ c.if-is_err.true) c.write_one.ensures.fails)
     (view_of c.fail_job.new.running)
     c.requires.waits c.fail_job.ensures.failed
@@ -44,13 +36,8 @@ returns-clause-case g c =
     zeroed_one g.D.PageDisk (view_of c.args.running.now) c.args.beside.serves c.args.planned
     c.args.beside.old c.args.zeroed (phases_in c.args.beside.later.items) c.requires.at_work c.requires.zeroed
     c.write_one.new.disk
-    c.next_page-page.result c.next_page-page.ensures
-    (subst (λ page. CallsLeaveOnly g.D.PageDisk c.args.running.now.disk c.write_one.new.disk
-    (Written (g.D.PageDisk.images c.args.running.now.disk) c.next_page-page.result Plain page)) zeros
-    c.write_one.ensures.any_moment)
-    (subst (λ page. WritesOnePage g.D.PageDisk.tells (device_of g.D.PageDisk c.args.running.now.disk)
-    c.next_page-page.result page 1 (device_of g.D.PageDisk c.write_one.new.disk)) zeros
-    (on_ok c.write_one.result _ (sym c.is_err.ensures.value ∙ c.if-is_err.false) c.write_one.ensures.moves))
+    c.next_page-page.result c.next_page-page.ensures zeros c.write_one.ensures.any_moment
+    (on_ok c.write_one.result _ (sym c.is_err.ensures.value ∙ c.if-is_err.false) c.write_one.ensures.moves)
     _ c.behind_zeros.ensures.seen
 
 pub returns-clause-order : goal.returns-clause-order
