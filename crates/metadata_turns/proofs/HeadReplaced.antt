@@ -1,5 +1,5 @@
 -- A job whose fresh pages are all written: what is known of its replacement.
-use Rattle.std.proofs.Common.{◌≡◌, ℕ, ◌+◌, ◌<◌, Bool, All, List, [], ◌∷◌, length, Option, Some, None, refl, sym, ap}
+use Rattle.std.proofs.Common.{◌≡◌, ℕ, ◌<◌, Bool, All, List, [], ◌∷◌, length, Option, Some, None, refl, sym, ap}
 use Rattle.std.proofs.Common.{get_or, subst, drop, true, false}
 use Rattle.std.specs.Prelude.{IfSome, IsSome, is_some, slice_get}
 use Rattle.std.specs.Option.{option_map_or}

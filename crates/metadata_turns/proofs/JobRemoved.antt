@@ -1,7 +1,6 @@
 -- What is known of a job's replacement by which a blob is erased.
-use Rattle.std.proofs.Common.{◌≡◌, ℕ, ◌+◌, ◌<◌, true, false, All, List, [], ◌∷◌, Some, None, refl}
-use Rattle.std.proofs.Common.{sym}
-use Rattle.std.proofs.Common.{subst, get_or}
+use Rattle.std.proofs.Common.{◌≡◌, ℕ, ◌<◌, true, false, All, List, [], ◌∷◌, Some, None, refl}
+use Rattle.std.proofs.Common.{get_or}
 use Rattle.std.proofs.lemmas.Bool.{eq-eqb}
 use Rattle.bit_array.specs.Bits.{is_in}
 use Rattle.page_disk.specs.declared.disk.PageDisk.{Ghosts}

@@ -1,4 +1,4 @@
-use Rattle.std.proofs.Common.{◌≡◌, ◌≤◌, ◌+◌, ℕ, List, sym, ◌∙◌, ap, refl, subst, arith}
+use Rattle.std.proofs.Common.{◌≤◌, ◌+◌, ℕ, sym, ◌∙◌, ap, refl, subst, arith}
 use Rattle.std.specs.Prelude.{false, slice_set}
 use Rattle.store_model.specs.Maps.{Metas}
 use Rattle.running_store.specs.Blobs.{blobs_behind, blobs_of}
