@@ -18,6 +18,7 @@ use Rattle.volume_model.specs.declared.reply.Reply.{Reply}
 use Rattle.store_model.proofs.RowsKept.{row_here as row_at, row_other}
 use Rattle.store_model.specs.Rows.{fill_row, Answered, Decided, InJob, Lost, Posted, Row, Rows, with_row}
 use Rattle.store_model.specs.StoreState.{StoreState}
+use Rattle.store_model.specs.Turning.{IsPosted}
 use Rattle.job_begins.specs.Begins.{BeginsOrNot}
 use Rattle.job_begins.specs.Inserts.{InsertsOrNot, IsLack, RowsInserting}
 use Rattle.job_begins.specs.declared.begin.BeginTurn.{BeginTurn}
@@ -32,14 +33,10 @@ use Rattle.running_store.specs.GivingBack.{filled, halting, own}
 use Rattle.running_store.specs.Steps.{OnlyRow}
 use Rattle.running_store.specs.StoreView.{rows_of, state_of, StoreView}
 use Rattle.running_store.specs.TurnMade.{TurnMade}
+use Rattle.md_thread.proofs.SomeTurns.{by_stop}
 
 row_here : (rows : Rows) (channel : ℕ) (row : Row) → with_row rows channel row channel ≡ row
 row_here rows channel row = row_at rows channel row channel refl
-
--- a store has stopped, or hasn't
-by_stop : {A : Type 0} (stopped : Option ℕ) → (stopped ≡ None → A) → (IsSome stopped → A) → A
-by_stop None runs halts = runs refl
-by_stop (Some at) runs halts = halts refl
 
 -- no list is longer than itself
 longer : (command : Command) (rest left : List Command) → left ≡ command ∷ rest → left ≡ rest → ⊥
@@ -86,30 +83,32 @@ module _ {D : Type 0} (d : Ghosts D) (p q : StoreView D) (channel serial : ℕ)
   by_stage row number rows after was is ne = by_row row (λ same.
       ne (sym was ∙ ap (λ (r : Row). r.stage) (sym same ∙ ap (λ (r : Rows). r row) is ∙ row_here rows row after)))
 
-  -- so is the one whose slot lacks a cluster, or which finds the store stopped then
+  -- so is that of a posted command that is logged or begun,
+  by_posted : (x : IsPosted s) (after : Row) → t.rows ≡ with_row s.rows x.channel after
+      → (Posted x.serial ≡ after.stage → ⊥) → x.channel ≡ channel
+  by_posted x after is = by_stage x.channel x.serial s.rows after (ap (λ (r : Row). r.stage) x.row) is
+
+  -- or whose slot lacks a cluster, or which finds the store stopped then
   pub fill_lacked : LacksForFill s t → FillEnd d.tells s t channel
-  fill_lacked x = fill.lacks_for_fill x
-      (by_stage x.fill.posted.channel x.fill.posted.serial s.rows
-      (record { left = x.fill.posted.rest; stage = Decided Answered; claim = None })
-      (ap (λ (r : Row). r.stage) x.fill.posted.row) (ap (λ (v : StoreState). v.rows) x.next) (λ e. cc e))
+  fill_lacked x =
+      fill.lacks_for_fill x
+      (by_posted x.fill.posted (record { left = x.fill.posted.rest; stage = Decided Answered; claim = None })
+      (ap (λ (v : StoreState). v.rows) x.next) (λ e. cc e))
 
   answered : Answers s t → ServingTurn d.tells s t channel
   answered x = serving.answers x
-      (by_stage x.posted.channel x.posted.serial s.rows
-      (record { left = x.posted.rest; stage = Decided Answered; claim = None })
-      (ap (λ (r : Row). r.stage) x.posted.row) (ap (λ (v : StoreState). v.rows) x.next) (λ e. cc e))
+      (by_posted x.posted (record { left = x.posted.rest; stage = Decided Answered; claim = None })
+      (ap (λ (v : StoreState). v.rows) x.next) (λ e. cc e))
 
   refused : Refuses s t → ServingTurn d.tells s t channel
   refused x = serving.refuses x
-      (by_stage x.posted.channel x.posted.serial s.rows
-      (record { left = x.posted.rest; stage = Decided Answered; claim = None })
-      (ap (λ (r : Row). r.stage) x.posted.row) (ap (λ (v : StoreState). v.rows) x.next) (λ e. cc e))
+      (by_posted x.posted (record { left = x.posted.rest; stage = Decided Answered; claim = None })
+      (ap (λ (v : StoreState). v.rows) x.next) (λ e. cc e))
 
   begun : Begins s t → ServingTurn d.tells s t channel
   begun x = serving.begins x
-      (by_stage x.posted.channel x.posted.serial s.rows
-      (record { left = x.posted.command ∷ x.posted.rest; stage = InJob; claim = None })
-      (ap (λ (r : Row). r.stage) x.posted.row) (ap (λ (v : StoreState). v.rows) x.next) (λ e. cc e))
+      (by_posted x.posted (record { left = x.posted.command ∷ x.posted.rest; stage = InJob; claim = None })
+      (ap (λ (v : StoreState). v.rows) x.next) (λ e. cc e))
 
   lost : LosesInsert s t → ServingTurn d.tells s t channel
   lost x = serving.loses_insert x

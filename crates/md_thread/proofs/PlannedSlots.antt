@@ -70,17 +70,26 @@ module _ {D : Type 0} (d : Ghosts D) (p : StoreView D) where
         subst (λ (sup : Super). P p.metas sup) s (subst (λ (metas : map.FinMap nat_cmp Meta). P metas sup) m x)
 
     -- a job that the command asks for is planned, or it is refused for its first cause or for want of memory
-    by_plan : (command : Command) → MayLackMemory (fixed_of p.super) (shown (state_of d p)) command
-        → (Plans : map.FinMap nat_cmp Meta → Super → Job → Type 0)
-        → ((job : Job) → Plans p.metas p.super job → IsFirstRefusal p.metas p.super command None
-        → IsJobOf (state_of d p) command job) → (planned : Result Job Reply) → IfOk planned (Plans metas sup)
+    by_plan : (asked : Command) → MayLackMemory (fixed_of p.super) (shown (state_of d p)) asked
+        → (Plans : Command → map.FinMap nat_cmp Meta → Super → Job → Type 0)
+        → ((job : Job) → Plans asked p.metas p.super job → IsFirstRefusal p.metas p.super asked None
+        → IsJobOf (state_of d p) asked job) → (command : Command) → command ≡ asked → (planned : Result Job Reply)
+        → IfOk planned (Plans command metas sup) → IfOk planned (λ job. IsFirstRefusal metas sup command None)
+        → IfErr planned (RefusesFirst metas sup command) → IsPlanOf d p command (Some planned)
+    by_plan asked may Plans asks command e =
+        subst
+        (λ (command : Command). (planned : Result Job Reply) → IfOk planned (Plans command metas sup)
         → IfOk planned (λ job. IsFirstRefusal metas sup command None) → IfErr planned (RefusesFirst metas sup command)
-        → IsPlanOf d p command (Some planned)
-    by_plan command may Plans asks (Ok job) plan first refuses =
-        asks job (given (λ metas sup. Plans metas sup job) plan)
-        (given (λ metas sup. IsFirstRefusal metas sup command None) first)
-    by_plan command may Plans asks (Err reply) plan first refuses =
-        refused_first command reply shows may (given (λ metas sup. RefusesFirst metas sup command reply) refuses)
+        → IsPlanOf d p command (Some planned)) (sym e) plan
+      where
+        plan : (planned : Result Job Reply) → IfOk planned (Plans asked metas sup)
+            → IfOk planned (λ job. IsFirstRefusal metas sup asked None) → IfErr planned (RefusesFirst metas sup asked)
+            → IsPlanOf d p asked (Some planned)
+        plan (Ok job) planned first refuses =
+            asks job (given (λ metas sup. Plans asked metas sup job) planned)
+            (given (λ metas sup. IsFirstRefusal metas sup asked None) first)
+        plan (Err reply) planned first refuses =
+            refused_first asked reply shows may (given (λ metas sup. RefusesFirst metas sup asked reply) refuses)
 
     module _ (made : (name : Text) (slots : ℕ) (thick : Bool) (uuid : Option (List ℕ)) (head : ℕ) (xattrs : Xattrs)
         → IsName name → IsNextHead p.super.md_len p.pages head
@@ -101,14 +110,9 @@ module _ {D : Type 0} (d : Ghosts D) (p : StoreView D) where
           → (planned : Result Job Reply) → IfOk planned (PlansCreate metas sup head command)
           → IfOk planned (λ job. IsFirstRefusal metas sup command None)
           → IfErr planned (RefusesFirst metas sup command) → IsPlanOf d p command (Some planned)
-      create_plan head next command name slots thick uuid e =
-          subst
-          (λ (command : Command). (planned : Result Job Reply) → IfOk planned (PlansCreate metas sup head command)
-          → IfOk planned (λ job. IsFirstRefusal metas sup command None)
-          → IfErr planned (RefusesFirst metas sup command) → IsPlanOf d p command (Some planned)) (sym e)
-          (by_plan (c.Create name slots thick uuid) tt
-          (λ metas sup. PlansCreate metas sup head (c.Create name slots thick uuid))
-          (create_asks head next name slots thick uuid))
+      create_plan head next command name slots thick uuid =
+          by_plan (c.Create name slots thick uuid) tt (λ command metas sup. PlansCreate metas sup head command)
+          (create_asks head next name slots thick uuid) command
 
     module _ (meant : (metas : map.FinMap nat_cmp Meta) (sup : Super) (volume : VolumeRef) (head : ℕ)
         → IsLeast (is_meant sup.super_blob metas volume) head → IsHeadMeant metas sup volume (Some head))
@@ -128,13 +132,9 @@ module _ {D : Type 0} (d : Ghosts D) (p : StoreView D) where
           → (planned : Result Job Reply) → IfOk planned (PlansResize metas sup command)
           → IfOk planned (λ job. IsFirstRefusal metas sup command None)
           → IfErr planned (RefusesFirst metas sup command) → IsPlanOf d p command (Some planned)
-      resize_plan command volume slots e =
-          subst
-          (λ (command : Command). (planned : Result Job Reply) → IfOk planned (PlansResize metas sup command)
-          → IfOk planned (λ job. IsFirstRefusal metas sup command None)
-          → IfErr planned (RefusesFirst metas sup command) → IsPlanOf d p command (Some planned)) (sym e)
-          (by_plan (c.Resize volume slots) tt (λ metas sup. PlansResize metas sup (c.Resize volume slots))
-          (resize_asks volume slots))
+      resize_plan command volume slots =
+          by_plan (c.Resize volume slots) tt (λ command metas sup. PlansResize metas sup command)
+          (resize_asks volume slots) command
 
     -- a copy of the blob that is meant, at the head that is next
     module _ (copies : VolumeRef → Text → Command) (job_of : ℕ → Meta → ℕ → Xattrs → Job)
@@ -157,11 +157,9 @@ module _ {D : Type 0} (d : Ghosts D) (p : StoreView D) where
           → IfOk planned (λ job. CopiesMeant metas sup job_of head volume name job)
           → IfOk planned (λ job. IsFirstRefusal metas sup command None)
           → IfErr planned (RefusesFirst metas sup command) → IsPlanOf d p command (Some planned)
-      copy_plan command volume name e may planned plan =
-          subst (λ (command : Command). IfOk planned (λ job. IsFirstRefusal metas sup command None)
-          → IfErr planned (RefusesFirst metas sup command) → IsPlanOf d p command (Some planned)) (sym e)
-          (by_plan (copies volume name) may (λ metas sup. CopiesMeant metas sup job_of head volume name)
-          (copy_asks volume name) planned plan)
+      copy_plan command volume name e may =
+          by_plan (copies volume name) may (λ command metas sup. CopiesMeant metas sup job_of head volume name)
+          (copy_asks volume name) command e
 
     module _ (gone : (volume : VolumeRef) (of : ℕ) (job : Job) → IsHeadMeant p.metas p.super volume (Some of)
         → IsFirstRefusal p.metas p.super (c.Delete volume) None → IsDeleteJob p.metas of job
@@ -171,13 +169,9 @@ module _ {D : Type 0} (d : Ghosts D) (p : StoreView D) where
           → (planned : Result Job Reply) → IfOk planned (DeletesAsAsked metas sup command)
           → IfOk planned (λ job. IsFirstRefusal metas sup command None)
           → IfErr planned (RefusesFirst metas sup command) → IsPlanOf d p command (Some planned)
-      delete_plan command volume e =
-          subst
-          (λ (command : Command). (planned : Result Job Reply) → IfOk planned (DeletesAsAsked metas sup command)
-          → IfOk planned (λ job. IsFirstRefusal metas sup command None)
-          → IfErr planned (RefusesFirst metas sup command) → IsPlanOf d p command (Some planned)) (sym e)
-          (by_plan (c.Delete volume) tt (λ metas sup. DeletesAsAsked metas sup (c.Delete volume))
-          (λ job plan first. gone volume plan.of job plan.meant first plan.job_is))
+      delete_plan command volume =
+          by_plan (c.Delete volume) tt (λ command metas sup. DeletesAsAsked metas sup command)
+          (λ job plan first. gone volume plan.of job plan.meant first plan.job_is) command
 
     module _ (given_name : (volume : VolumeRef) (name : Text) (head : ℕ) (old : Meta) (job : Job) → IsName name
         → IsHeadMeant p.metas p.super volume (Some head) → map.get p.metas head ≡ Some old
@@ -194,10 +188,6 @@ module _ {D : Type 0} (d : Ghosts D) (p : StoreView D) where
           → (planned : Result Job Reply) → IfOk planned (PlansRename metas sup command)
           → IfOk planned (λ job. IsFirstRefusal metas sup command None)
           → IfErr planned (RefusesFirst metas sup command) → IsPlanOf d p command (Some planned)
-      rename_plan command volume name e =
-          subst
-          (λ (command : Command). (planned : Result Job Reply) → IfOk planned (PlansRename metas sup command)
-          → IfOk planned (λ job. IsFirstRefusal metas sup command None)
-          → IfErr planned (RefusesFirst metas sup command) → IsPlanOf d p command (Some planned)) (sym e)
-          (by_plan (c.Rename volume name) tt (λ metas sup. PlansRename metas sup (c.Rename volume name))
-          (rename_asks volume name))
+      rename_plan command volume name =
+          by_plan (c.Rename volume name) tt (λ command metas sup. PlansRename metas sup command)
+          (rename_asks volume name) command

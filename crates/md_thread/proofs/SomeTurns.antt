@@ -1,5 +1,5 @@
 -- What serves a command is a turn of some kind, by what its call answers.
-use Rattle.std.proofs.Common.{◌≡◌, ℕ, Option, Some, None, refl}
+use Rattle.std.proofs.Common.{◌≡◌, ℕ, Option, Some, None, refl, sym, ◌∙◌, subst}
 use Rattle.std.specs.Prelude.{IsSome}
 use Rattle.page_disk.specs.declared.disk.PageDisk.{Ghosts}
 use Rattle.store_model.specs.Cases as kind
@@ -45,3 +45,11 @@ module _ {D : Type 0} (d : Ghosts D) (p q : StoreView D) where
       → (IsSome p.stopped → (turn ≡ insert.Logged) × TurnMade d p q (halting row)) → Some_one
   some_insert turn row runs stopped =
       by_stop p.stopped (λ e. inserted turn (runs e)) (λ e. (halting row, (stopped e).1.0))
+
+  -- an insert that isn't logged was begun, or not, by a store that runs
+  pub not_halted : {turn now : InsertTurn} (row : ℕ) → (p.stopped ≡ None → InsertsOrNot d p q turn)
+      → (IsSome p.stopped → (turn ≡ insert.Logged) × TurnMade d p q (halting row)) → turn ≡ now
+      → (now ≡ insert.Logged → ⊥) → InsertsOrNot d p q now
+  not_halted row runs stopped is other =
+      by_stop p.stopped (λ e. subst (InsertsOrNot d p q) is (runs e))
+      (λ e. absurd (other (sym is ∙ (stopped e).0)))

@@ -1,18 +1,17 @@
-use Rattle.std.proofs.Common.{◌≡◌, ◌≢◌, sym, ◌∙◌, ap, refl, subst}
+use Rattle.std.proofs.Common.{◌≡◌, ◌≢◌, sym, ◌∙◌, ap, refl, subst, subst₂}
 use Rattle.volume_model.specs.declared.reply.Msg.{Msg}
 use Rattle.store_model.specs.Cases as kind
 use Rattle.store_model.specs.Rows.{Answered, Copying, Decided, fill_row, Idle, InJob, Lost, Posted, Ready, Row}
 use Rattle.channel_turns.specs.ClaimTurns.{RowsCopied, RowsSent}
 use Rattle.channel_turns.specs.declared.settling.SettleTurn.TheVariants.{Waiting}
 use Rattle.job_begins.specs.Inserts.{InsertsOrNot, RowsInserting}
-use Rattle.job_begins.specs.declared.inserting.InsertTurn.TheVariants as insert
 use Rattle.running_store.specs.GivingBack.{halting}
 use Rattle.running_store.specs.TurnMade.{TurnMade}
 use Rattle.running_store.specs.StoreView.{rows_of, state_of}
 use Rattle.md_thread.proofs.FillStage.{gave_stage, insert_posted, nothing_else, stage_for}
 use Rattle.md_thread.proofs.FillSteps.{ended_copy, ended_halted, ended_insert, ended_send, on_begins, on_copies}
 use Rattle.md_thread.proofs.FillSteps.{on_loses, on_loses_copy, on_sends, on_settles}
-use Rattle.md_thread.proofs.SomeTurns.{by_stop, some_insert}
+use Rattle.md_thread.proofs.SomeTurns.{by_stop, not_halted, some_insert}
 use Rattle.md_thread.proofs.StandsNow.{stands}
 use Rattle.md_thread.proofs.TurnsRepaired.{turned}
 use Rattle.md_thread.proofs.filling.fill_turn.Goals as goal
@@ -31,11 +30,7 @@ returns-in-Lost-clause-moves g c = λ low posted works.
 
 pub returns-in-Lost-clause-repaired : goal.returns-in-Lost-clause-repaired
 returns-in-Lost-clause-repaired g c =
-    let d = g.D.PageDisk in
-    let p = c.args.plant.now.at in
-    let q = c.copy_page.new.self.at in
-    let now = stands d c.state_turns.ensures c.args.plant.now c.keeps.ensures in
-    turned d c.state_turns.ensures c.args.plant.now c.copy_page.new.self c.keeps.ensures
+    turned g.D.PageDisk c.state_turns.ensures c.args.plant.now c.copy_page.new.self c.keeps.ensures
     (kind.loses_copy, (c.copy_page.ensures.lost c.in-Lost.is).0) c.requires.repaired
 
 pub returns-in-Copied-clause-moves : goal.returns-in-Copied-clause-moves
@@ -50,11 +45,7 @@ returns-in-Copied-clause-moves g c = λ low posted works.
 
 pub returns-in-Copied-clause-repaired : goal.returns-in-Copied-clause-repaired
 returns-in-Copied-clause-repaired g c =
-    let d = g.D.PageDisk in
-    let p = c.args.plant.now.at in
-    let q = c.copy_page.new.self.at in
-    let now = stands d c.state_turns.ensures c.args.plant.now c.keeps.ensures in
-    turned d c.state_turns.ensures c.args.plant.now c.copy_page.new.self c.keeps.ensures
+    turned g.D.PageDisk c.state_turns.ensures c.args.plant.now c.copy_page.new.self c.keeps.ensures
     (kind.copies, (c.copy_page.ensures.copied _ c.in-Copied.is).0) c.requires.repaired
 
 pub returns-in-Logged-clause-moves : goal.returns-in-Logged-clause-moves
@@ -71,12 +62,8 @@ returns-in-Logged-clause-moves g c = λ low posted works.
 
 pub returns-in-Logged-clause-repaired : goal.returns-in-Logged-clause-repaired
 returns-in-Logged-clause-repaired g c =
-    let d = g.D.PageDisk in
-    let p = c.args.plant.now.at in
-    let q = c.copy_page.new.self.at in
-    let now = stands d c.state_turns.ensures c.args.plant.now c.keeps.ensures in
     let made = c.copy_page.ensures.logged c.in-Logged.is in
-    turned d c.state_turns.ensures c.args.plant.now c.copy_page.new.self c.keeps.ensures
+    turned g.D.PageDisk c.state_turns.ensures c.args.plant.now c.copy_page.new.self c.keeps.ensures
     (made.kind, made.made.0) c.requires.repaired
 
 pub returns-in-Post-clause-moves : goal.returns-in-Post-clause-moves
@@ -93,11 +80,7 @@ returns-in-Post-clause-moves g c = λ low posted works.
 
 pub returns-in-Post-clause-repaired : goal.returns-in-Post-clause-repaired
 returns-in-Post-clause-repaired g c =
-    let d = g.D.PageDisk in
-    let p = c.args.plant.now.at in
-    let q = c.send_ready.new.self.at in
-    let now = stands d c.state_turns.ensures c.args.plant.now c.keeps.ensures in
-    turned d c.state_turns.ensures c.args.plant.now c.send_ready.new.self c.keeps.ensures
+    turned g.D.PageDisk c.state_turns.ensures c.args.plant.now c.send_ready.new.self c.keeps.ensures
     (kind.sends, (c.send_ready.ensures.sent _ c.in-Post.is).0) c.requires.repaired
 
 pub returns-in-Logged-send_ready-clause-moves : goal.returns-in-Logged-send_ready-clause-moves
@@ -115,12 +98,8 @@ returns-in-Logged-send_ready-clause-moves g c = λ low posted works.
 
 pub returns-in-Logged-send_ready-clause-repaired : goal.returns-in-Logged-send_ready-clause-repaired
 returns-in-Logged-send_ready-clause-repaired g c =
-    let d = g.D.PageDisk in
-    let p = c.args.plant.now.at in
-    let q = c.send_ready.new.self.at in
-    let now = stands d c.state_turns.ensures c.args.plant.now c.keeps.ensures in
     let made = c.send_ready.ensures.logged c.in-Logged-send_ready.is in
-    turned d c.state_turns.ensures c.args.plant.now c.send_ready.new.self c.keeps.ensures
+    turned g.D.PageDisk c.state_turns.ensures c.args.plant.now c.send_ready.new.self c.keeps.ensures
     (made.kind, made.made.0) c.requires.repaired
 
 pub returns-in-Began-clause-moves : goal.returns-in-Began-clause-moves
@@ -131,14 +110,11 @@ returns-in-Began-clause-moves g c = λ low posted works.
     let now = stands d c.state_turns.ensures c.args.plant.now c.keeps.ensures in
     let at = stage_for (rows_of p.rows fill_row) fill_row now.left (_) (sym c.stage.ensures ∙ c.in-Posted.is) in
     let here = ap (λ (m : Msg). m.channel) at.1 in
-    let only = subst (λ n. RowsInserting insert.Began p.filling p.rows q.rows n) here
-    (subst (λ turn. RowsInserting turn p.filling p.rows q.rows c.in-Posted.own.channel) c.in-Began.is
-    c.begin_insert.ensures.rows) in
+    let only = subst₂ (λ turn n. RowsInserting turn p.filling p.rows q.rows n) c.in-Began.is here
+    c.begin_insert.ensures.rows in
     on_begins d p q now
     (λ e. let bad : InJob ≡ Posted _ = sym (ap (λ (r : Row). r.stage) only.row) ∙ e ∙ at.0 in cc bad) c.args.msg.channel
-    (by_stop p.stopped
-    (λ e. subst (InsertsOrNot d p q) c.in-Began.is (c.begin_insert.ensures.begins e))
-    (λ e. let bad = sym c.in-Began.is ∙ (c.begin_insert.ensures.halted e).0 in absurd (cc bad)))
+    (not_halted d p q _ c.begin_insert.ensures.begins c.begin_insert.ensures.halted c.in-Began.is (λ e. cc e))
 
 pub returns-in-Decided-begin_insert-clause-moves : goal.returns-in-Decided-begin_insert-clause-moves
 returns-in-Decided-begin_insert-clause-moves g c = λ low posted works.
@@ -148,15 +124,13 @@ returns-in-Decided-begin_insert-clause-moves g c = λ low posted works.
     let now = stands d c.state_turns.ensures c.args.plant.now c.keeps.ensures in
     let at = stage_for (rows_of p.rows fill_row) fill_row now.left (_) (sym c.stage.ensures ∙ c.in-Posted.is) in
     let here = ap (λ (m : Msg). m.channel) at.1 in
-    let only = subst (λ n. RowsInserting insert.Decided p.filling p.rows q.rows n) here
-    (subst (λ turn. RowsInserting turn p.filling p.rows q.rows c.in-Posted.own.channel) c.in-Decided-begin_insert.is
-    c.begin_insert.ensures.rows) in
+    let only = subst₂ (λ turn n. RowsInserting turn p.filling p.rows q.rows n) c.in-Decided-begin_insert.is here
+    c.begin_insert.ensures.rows in
     on_loses d p q now
     (λ e. let bad : Decided Lost ≡ Posted _ = sym (ap (λ (r : Row). r.stage) only.row) ∙ e ∙ at.0 in cc bad)
     c.args.msg.channel
-    (by_stop p.stopped
-    (λ e. subst (InsertsOrNot d p q) c.in-Decided-begin_insert.is (c.begin_insert.ensures.begins e))
-    (λ e. let bad = sym c.in-Decided-begin_insert.is ∙ (c.begin_insert.ensures.halted e).0 in absurd (cc bad)))
+    (not_halted d p q _ c.begin_insert.ensures.begins c.begin_insert.ensures.halted c.in-Decided-begin_insert.is
+    (λ e. cc e))
 
 pub returns-in-Logged-begin_insert-clause-moves : goal.returns-in-Logged-begin_insert-clause-moves
 returns-in-Logged-begin_insert-clause-moves g c = λ low posted works.
@@ -167,9 +141,8 @@ returns-in-Logged-begin_insert-clause-moves g c = λ low posted works.
     let at = stage_for (rows_of p.rows fill_row) fill_row now.left (_) (sym c.stage.ensures ∙ c.in-Posted.is) in
     let here = ap (λ (m : Msg). m.channel) at.1 in
     let gave = gave_stage p.filling p.rows q.rows (Decided Answered)
-    (subst (λ n. RowsInserting insert.Logged p.filling p.rows q.rows n) here
-    (subst (λ turn. RowsInserting turn p.filling p.rows q.rows c.in-Posted.own.channel) c.in-Logged-begin_insert.is
-    c.begin_insert.ensures.rows)) in
+    (subst₂ (λ turn n. RowsInserting turn p.filling p.rows q.rows n) c.in-Logged-begin_insert.is here
+    c.begin_insert.ensures.rows) in
     let changed : (rows_of q.rows fill_row).stage ≢ (rows_of p.rows fill_row).stage =
     λ e. let bad : Decided Answered ≡ Posted _ = sym gave ∙ e ∙ at.0 in cc bad in
     by_stop p.stopped
@@ -181,33 +154,21 @@ returns-in-Logged-begin_insert-clause-moves g c = λ low posted works.
 
 pub returns-in-Began-clause-repaired : goal.returns-in-Began-clause-repaired
 returns-in-Began-clause-repaired g c =
-    let d = g.D.PageDisk in
-    let p = c.args.plant.now.at in
-    let q = c.begin_insert.new.self.at in
-    let now = stands d c.state_turns.ensures c.args.plant.now c.keeps.ensures in
-    turned d c.state_turns.ensures c.args.plant.now c.begin_insert.new.self c.keeps.ensures
-    (some_insert d p q c.begin_insert.result c.in-Posted.own.channel c.begin_insert.ensures.begins
-    c.begin_insert.ensures.halted) c.requires.repaired
+    turned g.D.PageDisk c.state_turns.ensures c.args.plant.now c.begin_insert.new.self c.keeps.ensures
+    (some_insert g.D.PageDisk c.args.plant.now.at c.begin_insert.new.self.at c.begin_insert.result
+    c.in-Posted.own.channel c.begin_insert.ensures.begins c.begin_insert.ensures.halted) c.requires.repaired
 
 pub returns-in-Decided-begin_insert-clause-repaired : goal.returns-in-Decided-begin_insert-clause-repaired
 returns-in-Decided-begin_insert-clause-repaired g c =
-    let d = g.D.PageDisk in
-    let p = c.args.plant.now.at in
-    let q = c.begin_insert.new.self.at in
-    let now = stands d c.state_turns.ensures c.args.plant.now c.keeps.ensures in
-    turned d c.state_turns.ensures c.args.plant.now c.begin_insert.new.self c.keeps.ensures
-    (some_insert d p q c.begin_insert.result c.in-Posted.own.channel c.begin_insert.ensures.begins
-    c.begin_insert.ensures.halted) c.requires.repaired
+    turned g.D.PageDisk c.state_turns.ensures c.args.plant.now c.begin_insert.new.self c.keeps.ensures
+    (some_insert g.D.PageDisk c.args.plant.now.at c.begin_insert.new.self.at c.begin_insert.result
+    c.in-Posted.own.channel c.begin_insert.ensures.begins c.begin_insert.ensures.halted) c.requires.repaired
 
 pub returns-in-Logged-begin_insert-clause-repaired : goal.returns-in-Logged-begin_insert-clause-repaired
 returns-in-Logged-begin_insert-clause-repaired g c =
-    let d = g.D.PageDisk in
-    let p = c.args.plant.now.at in
-    let q = c.begin_insert.new.self.at in
-    let now = stands d c.state_turns.ensures c.args.plant.now c.keeps.ensures in
-    turned d c.state_turns.ensures c.args.plant.now c.begin_insert.new.self c.keeps.ensures
-    (some_insert d p q c.begin_insert.result c.in-Posted.own.channel c.begin_insert.ensures.begins
-    c.begin_insert.ensures.halted) c.requires.repaired
+    turned g.D.PageDisk c.state_turns.ensures c.args.plant.now c.begin_insert.new.self c.keeps.ensures
+    (some_insert g.D.PageDisk c.args.plant.now.at c.begin_insert.new.self.at c.begin_insert.result
+    c.in-Posted.own.channel c.begin_insert.ensures.begins c.begin_insert.ensures.halted) c.requires.repaired
 
 pub begin_insert-requires-clause-posted : goal.begin_insert-requires-clause-posted
 begin_insert-requires-clause-posted g c =
@@ -234,7 +195,6 @@ pub returns-in-Decided-clause-repaired : goal.returns-in-Decided-clause-repaired
 returns-in-Decided-clause-repaired g c =
     let d = g.D.PageDisk in
     let p = c.args.plant.now.at in
-    let q = c.settle.new.self.at in
     let now = stands d c.state_turns.ensures c.args.plant.now c.keeps.ensures in
     let at = stage_for (rows_of p.rows fill_row) fill_row now.left _ (sym c.stage.ensures ∙ c.in-Decided.is) in
     let moved : c.settle.result ≢ Waiting = λ e. (c.settle.ensures.waiting e).1 at.0 at.1 in

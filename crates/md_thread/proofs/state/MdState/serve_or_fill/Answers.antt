@@ -1,5 +1,5 @@
-use Rattle.std.proofs.Common.{◌≡◌, ◌≢◌, ◌⊎◌, ◌<◌, false, true, length, List, [], ◌∷◌, None, Some, refl, sym, ◌∙◌, ap}
-use Rattle.std.proofs.Common.{subst, inl, inr}
+use Rattle.std.proofs.Common.{◌≡◌, ◌≢◌, ◌⊎◌, ◌<◌, false, true, length, List, [], ◌∷◌, Option, None, Some, refl, sym, ◌∙◌}
+use Rattle.std.proofs.Common.{ap, subst, inl, inr}
 use Rattle.volume_model.specs.declared.reply.Msg.{Msg}
 use Rattle.store_model.specs.Filling.{IsFilledFor}
 use Rattle.store_model.specs.Rows.{Posted}
@@ -16,6 +16,11 @@ use Rattle.md_thread.proofs.StandsNow.{works_for_none}
 use Rattle.md_thread.proofs.StepsDue.{unused}
 use Rattle.md_thread.proofs.StepsMade.{by_held, by_joining, few_wait, first_held, looks}
 use Rattle.md_thread.proofs.state.MdState.serve_or_fill.Goals as goal
+
+-- where nothing was held, nothing was taken
+none_taken : (s : MetadataState) {taken left : Option Msg} → left ≡ None → taken ≡ s.held → taken ≡ None
+    → record s { held = left } ≡ s
+none_taken s after value none = ap (λ o. record s { held = o }) (after ∙ sym none ∙ value)
 
 pub returns-in-Some-clause-step : goal.returns-in-Some-clause-step
 returns-in-Some-clause-step g c = λ moved kept.
@@ -61,9 +66,8 @@ returns-in-None-clause-step g c = λ moved kept.
     let s = state_of d c.args.plant.now.at in
     let q = state_of d c.turn_without_held.new.plant.at in
     let m = c.let_wait.new.self in
-    let same : record (the_view c.self.inside) { held = c.take.new.self } ≡ m =
-    ap (λ o. record (the_view c.self.inside) { held = o }) (c.take.ensures.after ∙ sym c.in-None.is
-    ∙ c.take.ensures.value) ∙ c.self.view_is in
+    let same = none_taken (the_view c.self.inside) c.take.ensures.after c.take.ensures.value c.in-None.is
+    ∙ c.self.view_is in
     by_joining d.tells s q c.args.self.now m c.turn_without_held.new.self (c.let_wait.ensures.joined kept)
     c.let_wait.ensures.fill.1
     (subst
@@ -74,9 +78,8 @@ pub returns-in-None-clause-asked : goal.returns-in-None-clause-asked
 returns-in-None-clause-asked g c = λ kept.
     let d = g.D.PageDisk in
     let p = c.args.plant.now.at in
-    let same : record (the_view c.self.inside) { held = c.take.new.self } ≡ c.let_wait.new.self =
-    ap (λ o. record (the_view c.self.inside) { held = o }) (c.take.ensures.after ∙ sym c.in-None.is
-    ∙ c.take.ensures.value) ∙ c.self.view_is in
+    let same = none_taken (the_view c.self.inside) c.take.ensures.after c.take.ensures.value c.in-None.is
+    ∙ c.self.view_is in
     subst
     (λ (x : MetadataState). IsKept d p x → (msg : Msg) → c.turn_without_held.new.self.fill ≡ Some msg
     → IsFilledFor (rows_of c.turn_without_held.new.plant.at.rows msg.channel)) same
@@ -88,9 +91,8 @@ returns-in-None-clause-looks g c = λ idle kept.
     let s = state_of d c.args.plant.now.at in
     let own = c.args.self.now in
     let m = c.let_wait.new.self in
-    let same : record (the_view c.self.inside) { held = c.take.new.self } ≡ m =
-    ap (λ o. record (the_view c.self.inside) { held = o }) (c.take.ensures.after ∙ sym c.in-None.is
-    ∙ c.take.ensures.value) ∙ c.self.view_is in
+    let same = none_taken (the_view c.self.inside) c.take.ensures.after c.take.ensures.value c.in-None.is
+    ∙ c.self.view_is in
     let none = ap (λ (x : MetadataState). x.held) (sym c.self.view_is) ∙ sym c.take.ensures.value ∙ c.in-None.is in
     let why = subst
     (λ (x : MetadataState). ((x.fill ≡ None) × (x.waiting ≡ []))
@@ -106,9 +108,8 @@ returns-in-None-clause-looks g c = λ idle kept.
 
 pub returns-in-None-clause-idle : goal.returns-in-None-clause-idle
 returns-in-None-clause-idle g c = λ idle.
-    let same : record (the_view c.self.inside) { held = c.take.new.self } ≡ c.let_wait.new.self =
-    ap (λ o. record (the_view c.self.inside) { held = o }) (c.take.ensures.after ∙ sym c.in-None.is
-    ∙ c.take.ensures.value) ∙ c.self.view_is in
+    let same = none_taken (the_view c.self.inside) c.take.ensures.after c.take.ensures.value c.in-None.is
+    ∙ c.self.view_is in
     let none = ap (λ (x : MetadataState). x.held) (sym c.self.view_is) ∙ sym c.take.ensures.value ∙ c.in-None.is in
     let left = (c.turn_without_held.ensures.idle idle).1 in (
       (c.turn_without_held.ensures.idle idle).0,
@@ -122,9 +123,8 @@ pub returns-in-None-clause-first : goal.returns-in-None-clause-first
 returns-in-None-clause-first g c = λ first found.
     let own = c.args.self.now in
     let p = c.args.plant.now.at in
-    let same : record (the_view c.self.inside) { held = c.take.new.self } ≡ own =
-    ap (λ o. record (the_view c.self.inside) { held = o }) (c.take.ensures.after ∙ sym c.in-None.is
-    ∙ c.take.ensures.value) ∙ c.self.view_is ∙ c.let_wait.ensures.first (first_held p.job own first) in
+    let same = none_taken (the_view c.self.inside) c.take.ensures.after c.take.ensures.value c.in-None.is
+    ∙ c.self.view_is ∙ c.let_wait.ensures.first (first_held p.job own first) in
     subst
     (λ (x : MetadataState). looks_first p.job x ≡ true → x.found_none ≡ false
     → c.turn_without_held.result ≡ Idle) same c.turn_without_held.ensures.first first found
@@ -156,9 +156,8 @@ pub returns-in-None-clause-stale : goal.returns-in-None-clause-stale
 returns-in-None-clause-stale g c = λ none msg comes stale.
     let now = c.args.self.now in
     let p = c.args.plant.now in
-    let same : record (the_view c.self.inside) { held = c.take.new.self } ≡ c.let_wait.new.self =
-    ap (λ o. record (the_view c.self.inside) { held = o }) (c.take.ensures.after ∙ sym c.in-None.is
-    ∙ c.take.ensures.value) ∙ c.self.view_is in
+    let same = none_taken (the_view c.self.inside) c.take.ensures.after c.take.ensures.value c.in-None.is
+    ∙ c.self.view_is in
     let own = ap (λ (x : MetadataState). x.held) (sym c.self.view_is) ∙ sym c.take.ensures.value ∙ c.in-None.is in
     elim comes [
       | the_held held alone ↦
@@ -208,9 +207,8 @@ returns-in-None-clause-message g c = λ none msg comes low posted.
     let now = c.args.self.now in
     let p = c.args.plant.now in
     let q = c.turn_without_held.new.plant.at in
-    let same : record (the_view c.self.inside) { held = c.take.new.self } ≡ c.let_wait.new.self =
-    ap (λ o. record (the_view c.self.inside) { held = o }) (c.take.ensures.after ∙ sym c.in-None.is
-    ∙ c.take.ensures.value) ∙ c.self.view_is in
+    let same = none_taken (the_view c.self.inside) c.take.ensures.after c.take.ensures.value c.in-None.is
+    ∙ c.self.view_is in
     let own = ap (λ (x : MetadataState). x.held) (sym c.self.view_is) ∙ sym c.take.ensures.value ∙ c.in-None.is in
     elim comes [
       | the_held held alone ↦
@@ -237,9 +235,8 @@ returns-in-Some-clause-nothing g c = λ empty none alone.
 
 pub returns-in-None-clause-nothing : goal.returns-in-None-clause-nothing
 returns-in-None-clause-nothing g c = λ empty none alone.
-    let same : record (the_view c.self.inside) { held = c.take.new.self } ≡ c.args.self.now =
-    ap (λ o. record (the_view c.self.inside) { held = o }) (c.take.ensures.after ∙ sym c.in-None.is
-    ∙ c.take.ensures.value) ∙ c.self.view_is ∙ c.let_wait.ensures.first empty in
+    let same = none_taken (the_view c.self.inside) c.take.ensures.after c.take.ensures.value c.in-None.is
+    ∙ c.self.view_is ∙ c.let_wait.ensures.first empty in
     let idle = c.turn_without_held.ensures.nothing (ap (λ (x : MetadataState). x.fill) same ∙ none)
     (ap (λ (x : MetadataState). x.waiting) same ∙ alone) in
     let left = c.turn_without_held.ensures.idle idle in

@@ -1,4 +1,5 @@
-use Rattle.std.proofs.Common.{Option, sym, ◌∙◌, ap, subst}
+use Rattle.std.proofs.Common.{◌≡◌, Bool, true, None, Option, sym, ◌∙◌, ap, subst}
+use Rattle.std.proofs.lemmas.Bool.{false≢true}
 use Rattle.std.specs.Prelude.{is_some, IsSome}
 use Rattle.store_model.specs.Cases as kind
 use Rattle.store_model.specs.Rows.{fill_row}
@@ -10,6 +11,11 @@ use Rattle.md_thread.proofs.StepsDue.{used}
 use Rattle.md_thread.proofs.StepsMade.{by_closing, by_job, none_of, some_of}
 use Rattle.md_thread.proofs.TurnsRepaired.{turned}
 use Rattle.md_thread.proofs.state.MdState.turn_due.Goals as goal
+
+-- no job is there where one runs
+runs_none : {o : Option JobState} {runs : Bool} → runs ≡ is_some o → runs ≡ true → o ≡ None → ⊥
+runs_none is runs none =
+    false≢true (sym (ap (λ (j : Option JobState). is_some j) none) ∙ sym is ∙ runs)
 
 pub returns-then-job_runs-clause-step : goal.returns-then-job_runs-clause-step
 returns-then-job_runs-clause-step g c = λ moved kept.
@@ -26,7 +32,7 @@ returns-then-not-fill_row_is_over-clause-step g c = λ moved kept.
     ∙ none_of c.self.inside.fill c.if-is_none.ensures in
     let now = stands d c.state_turns.ensures c.args.plant.now c.keeps.ensures in
     let in_hand = used p.filling (rows_of p.rows fill_row) fill_row now.stage now.left
-    (λ over. let bad = sym c.if-not-fill_row_is_over.true ∙ c.fill_row_is_over.ensures.1 over in cc bad) in
+    (λ over. false≢true (sym c.if-not-fill_row_is_over.true ∙ c.fill_row_is_over.ensures.1 over)) in
     by_closing d.tells (state_of d p) (state_of d c.end_fill.new.self.at) c.args.self.now
     (none_of p.job (sym c.job_runs.ensures ∙ c.if-job_runs.false)) fill in_hand c.end_fill.ensures.case.0
 
@@ -37,13 +43,11 @@ returns-then-not-fill_row_is_over-clause-repaired g c =
 
 pub returns-then-job_runs-clause-stale : goal.returns-then-job_runs-clause-stale
 returns-then-job_runs-clause-stale g c = λ none over fill msg comes stale.
-    absurd (let bad = sym (ap (λ (j : Option JobState). is_some j) none) ∙ sym c.job_runs.ensures
-    ∙ c.if-job_runs.true in
-    cc bad)
+    absurd (runs_none c.job_runs.ensures c.if-job_runs.true none)
 
 pub returns-then-not-fill_row_is_over-clause-stale : goal.returns-then-not-fill_row_is_over-clause-stale
 returns-then-not-fill_row_is_over-clause-stale g c = λ none over fill msg comes stale.
-    absurd (let bad = sym c.if-not-fill_row_is_over.true ∙ c.fill_row_is_over.ensures.1 over in cc bad)
+    absurd (false≢true (sym c.if-not-fill_row_is_over.true ∙ c.fill_row_is_over.ensures.1 over))
 
 pub returns-then-not-fill_row_is_over-clause-job : goal.returns-then-not-fill_row_is_over-clause-job
 returns-then-not-fill_row_is_over-clause-job g c = λ runs.
@@ -53,20 +57,16 @@ returns-then-not-fill_row_is_over-clause-job g c = λ runs.
 
 pub returns-then-job_runs-clause-message : goal.returns-then-job_runs-clause-message
 returns-then-job_runs-clause-message g c = λ none over fill msg comes low posted.
-    absurd (let bad = sym (ap (λ (j : Option JobState). is_some j) none) ∙ sym c.job_runs.ensures
-    ∙ c.if-job_runs.true in
-    cc bad)
+    absurd (runs_none c.job_runs.ensures c.if-job_runs.true none)
 
 pub returns-then-not-fill_row_is_over-clause-message : goal.returns-then-not-fill_row_is_over-clause-message
 returns-then-not-fill_row_is_over-clause-message g c = λ none over fill msg comes low posted.
-    absurd (let bad = sym c.if-not-fill_row_is_over.true ∙ c.fill_row_is_over.ensures.1 over in cc bad)
+    absurd (false≢true (sym c.if-not-fill_row_is_over.true ∙ c.fill_row_is_over.ensures.1 over))
 
 pub returns-then-job_runs-clause-nothing : goal.returns-then-job_runs-clause-nothing
 returns-then-job_runs-clause-nothing g c = λ none over held fill waits.
-    absurd (let bad = sym (ap (λ (j : Option JobState). is_some j) none) ∙ sym c.job_runs.ensures
-    ∙ c.if-job_runs.true in
-    cc bad)
+    absurd (runs_none c.job_runs.ensures c.if-job_runs.true none)
 
 pub returns-then-not-fill_row_is_over-clause-nothing : goal.returns-then-not-fill_row_is_over-clause-nothing
 returns-then-not-fill_row_is_over-clause-nothing g c = λ none over held fill waits.
-    absurd (let bad = sym c.if-not-fill_row_is_over.true ∙ c.fill_row_is_over.ensures.1 over in cc bad)
+    absurd (false≢true (sym c.if-not-fill_row_is_over.true ∙ c.fill_row_is_over.ensures.1 over))
