@@ -1,8 +1,8 @@
 -- What actors do, as steps of a driver over a store and its messages.
-use Rattle.std.proofs.Common.{◌≡◌, ◌≢◌, inl, inr, ℕ, ◌<◌, nat_lt, Option, Some, None, Bool, true, false, ◌&&◌, ◌||◌}
-use Rattle.std.proofs.Common.{not, if◌then◌else◌, List, [], ◌∷◌, refl, sym, ◌∙◌, ap, subst, arith}
+use Rattle.std.proofs.Common.{◌≡◌, ◌≢◌, inl, inr, ℕ, ◌<◌, nat_lt, Option, Some, None, Bool, true, false, ◌&&◌}
+use Rattle.std.proofs.Common.{if◌then◌else◌, List, refl, sym, ◌∙◌, ap, arith}
 use Rattle.std.specs.Prelude.{◌==◌, slice_get, slice_set}
-use Rattle.std.specs.Option.{option_and_then, option_map}
+use Rattle.std.specs.Option.{option_and_then}
 use Rattle.std.proofs.Math.Path.{fun_ext}
 use Rattle.std.proofs.lemmas.Bool.{cases_eq, eq-eqb, ne_eqb}
 use Rattle.std.proofs.lemmas.Bool.Decides.{nat_tests}
@@ -14,20 +14,18 @@ use Rattle.volume_model.specs.declared.reply.Msg.{Msg}
 use Rattle.md_queue.specs.Queue.{Appends, HasNoRoom}
 use Rattle.store_model.specs.Rows.{Claiming, Copying, Decided, Ended, Idle, InJob, Posted, Ready, Stage}
 use Rattle.store_model.specs.RunInvariant.{RunInvariant}
-use Rattle.store_model.specs.StoreState.{JobState, StoreState}
+use Rattle.store_model.specs.StoreState.{StoreState}
 use Rattle.store_model.proofs.Inserted.{get_set_here}
 use Rattle.store_model.proofs.Ranges.{get_set_other}
-use Rattle.run_work.specs.Following.{ChannelActs, MetadataActs}
-use Rattle.run_work.specs.Reading.{has_any, is_in_use, is_there}
+use Rattle.run_work.specs.Following.{ChannelActs}
 use Rattle.run_work.specs.RunFacts.{not_sent, RunFacts}
 use Rattle.run_work.specs.RunState.{AtPosted, StageInRun}
-use Rattle.run_work.specs.ServingMoves.{the_held}
-use Rattle.run_work.specs.Steps.{due, has_to_wait, holds_command}
+use Rattle.run_work.specs.Steps.{has_to_wait}
 use Rattle.run_moves.specs.DrivenStore.{DrivenStore, run_of}
 use Rattle.run_moves.specs.DriverLaws.{DriverLawsOf}
-use Rattle.run_moves.specs.DriverSteps.{behind_others, by_job, by_message, by_posting, by_sending, by_taking, by_turn}
-use Rattle.run_moves.specs.DriverSteps.{driven_at_turn, DriverStep, JobTurn, MetadataActsOn, ServingTurn}
-use Rattle.run_moves.specs.Projection.{job_in_run, stage_in_run}
+use Rattle.run_moves.specs.DriverSteps.{behind_others, by_posting, by_sending, by_turn}
+use Rattle.run_moves.specs.DriverSteps.{driven_at_turn, DriverStep}
+use Rattle.run_moves.specs.Projection.{stage_in_run}
 use Rattle.channels.specs.ChannelState.{ChannelState}
 use Rattle.channels.specs.ChannelSteps.{IsHeldUp, posted, turned, TurnsOrPosts}
 use Rattle.channels.specs.Driving.{driven_of, unsent_of}

@@ -28,7 +28,7 @@ use Rattle.running_store.specs.declared.rows.RowStage.TheVariants as waits
 use Rattle.thin_write.specs.Turns.{GoesOn, LogsWrite, OthersStay, PostsInsert}
 use Rattle.run_work.specs.ChannelMoves.{logs_itself}
 use Rattle.run_moves.specs.Projection.{stage_in_run}
-use Rattle.run_moves.specs.DriverSteps.{ChannelTurn, PostingTurn}
+use Rattle.run_moves.specs.DriverSteps.{ChannelTurn}
 use Rattle.run_moves.specs.DriverSteps as turns
 use Rattle.channels.specs.ChannelSteps.{PostsRow}
 

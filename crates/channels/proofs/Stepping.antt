@@ -1,5 +1,5 @@
 -- A step of a driver as one of its run, and what the driver keeps.
-use Rattle.std.proofs.Common.{◌≡◌, false, inl, inr, ℕ, ◌<◌, List, length, Option, Some, sym, ◌∙◌, ap, subst, arith}
+use Rattle.std.proofs.Common.{◌≡◌, inl, inr, ℕ, ◌<◌, List, length, Some, sym, ◌∙◌, ap, subst, arith}
 use Rattle.std.proofs.Common.{get_or}
 use Rattle.std.specs.Prelude.{slice_get, slice_set}
 use Rattle.std.proofs.lemmas.Bool.{cases_eq}
