@@ -1,6 +1,5 @@
 pub mod Moving
 pub mod Counting
-pub mod OrderKept
 pub mod Maps
 pub mod Resolved
 pub mod Without
