@@ -139,8 +139,8 @@ module _ (p : StoreState) (command : Command) (x : DeletionAsk) (asks : AsksToDe
 
 -- ---- what is known of the two blobs
 
-module _ (p : StoreState) (running : IsRunning p) (clean : HasNoMarks p.base) (runs : p.stopped ≡ None)
-    (command : Command) (x : DeletionAsk) (it : IsDeletion p command x) where
+module _ {p : StoreState} (running : IsRunning p) (clean : HasNoMarks p.base) (runs : p.stopped ≡ None)
+    {command : Command} {x : DeletionAsk} (it : IsDeletion p command x) where
   abbrev known : Known
   known = record {
     s = running.store;

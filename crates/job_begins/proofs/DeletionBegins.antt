@@ -57,10 +57,10 @@ fresh_of new items are =
     let some = some_parts 4072 items in record { items = items; are = are; chain = omega (arith, some) }
 
 -- what the posted command of a channel asks for
-pub asked_at : {D : Type 0} (d : Ghosts D) (p : StoreView D) (channel : ℕ) (posted : IsPostedAt p channel)
-    (x : DeletionAsk) → Asks p channel (λ command. AsksToDelete (state_of d p) command x)
+pub asked_at : {D : Type 0} (d : Ghosts D) {p : StoreView D} {channel : ℕ} (posted : IsPostedAt p channel)
+    {x : DeletionAsk} → Asks p channel (λ command. AsksToDelete (state_of d p) command x)
     → IsDeletion (state_of d p) posted.waits.command x
-asked_at d p channel posted x asks =
+asked_at d {p} posted {x} asks =
     let waits = posted.waits in
     is_deletion (state_of d p) waits.command x (asks waits.command waits.rest (ap (λ (r : Row). r.left) waits.row))
 
@@ -103,7 +103,7 @@ module _ {D : Type 0} (d : Ghosts D) (p : StoreView D) (running : IsRunning (sta
 
     -- the clone is there still once the blob is marked
     clone_there : with_option s.base x.of (Some going) x.clone ≡ Some it.heir
-    clone_there = option_elsewhere s.base x.of (Some going) x.clone (apart s running clean runs command x it)
+    clone_there = option_elsewhere s.base x.of (Some going) x.clone (apart running clean runs it)
         ∙ it.there_too
 
     of_one : (there : Bool) (count : ℕ) → there ≡ true → count ≡ (if there then count else count + 1)
@@ -222,8 +222,8 @@ module _ {D : Type 0} (d : Ghosts D) (p : StoreView D) (running : IsRunning (sta
           } in
           subst (CanAllBeKept (blobs_in p)) (sym list_as)
           (delete_all_kept (fixed_of s.super) (blobs_in p) x.of x.clone it.old it.heir resolves
-          (rest s running clean runs command x it) it.there it.there_too it.one
-          (unlocked s running clean runs command x it) are.effects.mark_room has (x.of ∷ on.laid.going)
+          (rest running clean runs it) it.there it.there_too it.one
+          (unlocked running clean runs it) are.effects.mark_room has (x.of ∷ on.laid.going)
           (x.clone ∷ on.laid.taking)
           _ _ parts.besides.freed parts.old parts.old_of_clone on.laid.going)
 

@@ -164,12 +164,12 @@ module _ {D : Type 0} (d : Ghosts D) (p : StoreView D) (running : IsRunning (sta
 
   first_planned : IsPlannedFor s.super p.pages going (replacing_of first old)
   first_planned = part_planned x.of going drafts.going going_of laid.going begin_effects laid.first first_on s.super
-      placed (subst (IsStored s.super x.of) it.going_is (going_stored s running clean runs command x it))
+      placed (subst (IsStored s.super x.of) it.going_is (going_stored running clean runs it))
       laid.going_count old p.pages used.count (λ _. in_use x.of old chain) going_least
 
   second_planned : IsPlannedFor s.super pages_then taking (replacing_of second old_of_clone)
   second_planned = part_planned x.clone taking drafts.taking taking_of laid.taking commit_effects laid.second second_on
-      s.super placed (subst (IsStored s.super x.clone) it.taking_is (taking_stored s running clean runs command x it))
+      s.super placed (subst (IsStored s.super x.clone) it.taking_is (taking_stored running clean runs it))
       laid.taking_count old_of_clone pages_then (length_all_set p.pages laid.going true ∙ used.count)
       (λ _. clone_in_use) (least_others p.pages laid.going laid.taking both_least)
 
@@ -182,7 +182,7 @@ module _ {D : Type 0} (d : Ghosts D) (p : StoreView D) (running : IsRunning (sta
   chains_last = rechained chains_then (replacing_of second old_of_clone)
 
   apart_from : x.clone ≡ x.of → ⊥
-  apart_from = apart s running clean runs command x it
+  apart_from = apart running clean runs it
 
   clone_chain : chains_then x.clone ≡ Some (x.clone ∷ old_of_clone)
   clone_chain = option_elsewhere s.chains x.of (Some (x.of ∷ laid.going)) x.clone apart_from ∙ chain_too
@@ -199,7 +199,7 @@ module _ {D : Type 0} (d : Ghosts D) (p : StoreView D) (running : IsRunning (sta
   below : AllBelow (length does.beside) (clusters_held taking.map)
   below = subst (λ (m : Meta). AllBelow (length does.beside) (clusters_held m.map)) it.taking_is
       (subst (λ n. AllBelow n (clusters_held x.taking.map)) (sym does.count)
-      (taking_low s running clean runs command x it))
+      (taking_low running clean runs it))
 
   freed_are : (c : ℕ) → (is_among c effects.freed ≡ true)
       ↔ IsMissing (all_set does.beside (clusters_held taking.map) true) it.old.map c
@@ -236,7 +236,7 @@ module _ {D : Type 0} (d : Ghosts D) (p : StoreView D) (running : IsRunning (sta
           unerased = λ bad. absurd (cc bad);
           planned = (refl, refl, refl);
           clusters = erases_moves s.super s.base x.of x.clone it.old it.heir it.there it.there_too apart_from clone_low
-              does.beside does.beside_are below (taken_stored s running clean runs command x it) effects.freed
+              does.beside does.beside_are below (taken_stored running clean runs it) effects.freed
               freed_are;
         },
         tt,

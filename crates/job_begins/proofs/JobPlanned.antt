@@ -28,6 +28,11 @@ use Rattle.job_begins.specs.Begins.{job_with_zeros, taken_for}
 pub all_fit : (xattrs : Xattrs) → CanBeWritten xattrs → All FitsPage xattrs
 all_fit xattrs can = All-from_recursion FitsPage xattrs can.short
 
+-- so do both kinds of a blob
+pub both_fit : (m : Meta) → CanBeWritten m.xattrs × CanBeWritten m.internal
+    → All FitsPage m.xattrs × All FitsPage m.internal
+both_fit m can = (all_fit m.xattrs can.0, all_fit m.internal can.1)
+
 -- a replacement of a blob
 abbrev pub given : ℕ → Option Meta → Replacement
 given head new = record { head = head; new = new }

@@ -1,7 +1,8 @@
 -- A job for the posted command of a channel, while its pages and clusters are taken.
 use Rattle.std.proofs.Common.{◌≡◌, ◌≢◌, ℕ, ◌<◌, ◌≤◌, All, Bool, true, false, List, [], length, Option, Some, None}
-use Rattle.std.proofs.Common.{IfSome, refl, sym, ap, ◌∙◌, subst, arith, inl, inr}
+use Rattle.std.proofs.Common.{IfErr, IfSome, Result, refl, sym, ap, ◌∙◌, subst, arith, inl, inr}
 use Rattle.std.specs.Prelude.{if◌then◌else◌, is_some, not, slice_set}
+use Rattle.std.specs.Result.{IsErrAnd}
 use Rattle.page_disk.specs.declared.disk.PageDisk.{Ghosts}
 use Rattle.bit_array.specs.Bits.{is_in}
 use Rattle.pools.specs.Pool.{clear_in}
@@ -41,6 +42,7 @@ use Rattle.job_begins.proofs.JobAsked.{asked, IsAsked}
 use Rattle.job_begins.proofs.JobPrepared.{first_in_use, has_chain, ready, there_is, unmarked, zeros_within}
 use Rattle.job_begins.proofs.JobPlanned.{all_fit}
 use Rattle.job_begins.proofs.JobBegin.{begun, why_unprepared}
+use Rattle.job_begins.proofs.PassedOn.{passed_on}
 use Rattle.job_begins.proofs.SlotsOfZeros.{with_none}
 use Rattle.running_store.proofs.KeptAlone.{kept_unmarked}
 use Rattle.job_views.specs.Replacing.{blobs_in}
@@ -72,9 +74,9 @@ pub none_of : {A : Type 0} (o : Option A) → is_some o ≡ false → o ≡ None
 none_of None is = refl
 none_of (Some x) is = absurd (cc is)
 
-module _ {D : Type 0} (d : Ghosts D) (p : StoreView D) (channel : ℕ) (posted : IsPostedAt p channel)
+module _ {D : Type 0} (d : Ghosts D) {p : StoreView D} {channel : ℕ} (posted : IsPostedAt p channel)
     (running : IsRunning (state_of d p)) (clean : HasNoMarks (base_of p.metas p.marked)) (runs : p.stopped ≡ None)
-    (head : ℕ) (new : Meta) (zeros : List ℕ)
+    {head : ℕ} {new : Meta} {zeros : List ℕ}
     (asks_it : Asks p channel (λ command. AsksToWrite (state_of d p) command head new zeros)) where
   abbrev s : StoreState
   s = state_of d p
@@ -98,10 +100,15 @@ module _ {D : Type 0} (d : Ghosts D) (p : StoreView D) (channel : ℕ) (posted :
   once = known.once
 
   -- memory may always be wanting
-  pub no_memory : Asks p channel (λ k. IsRefusedAtBegin s k Memory)
+  no_memory : Asks p channel (λ k. IsRefusedAtBegin s k Memory)
   no_memory k ks left =
       let it = asks_it k ks left in
       may_lack (fixed_of s.super) (shown s) s k (job_with_zeros head new zeros) it.commit it.asked
+
+  -- so that a call may pass that on
+  pub lacks_memory : {T : Type 0} (x : Result T Reply) → IsErrAnd x (λ reply. reply ≡ Memory)
+      → IfErr x (λ reply. Asks p channel (λ k. IsRefusedAtBegin s k reply))
+  lacks_memory x is = passed_on x is (λ reply. Asks p channel (λ k. IsRefusedAtBegin s k reply)) no_memory
 
   -- ---- the blob's chain
 
@@ -118,7 +125,7 @@ module _ {D : Type 0} (d : Ghosts D) (p : StoreView D) (channel : ℕ) (posted :
 
   -- ---- with clusters in its slots of zeros
 
-  module _ (claimed : List ℕ) (claims : AreForZeros p.clusters zeros claimed) (later : Meta)
+  module _ {claimed : List ℕ} (claims : AreForZeros p.clusters zeros claimed) {later : Meta}
       (is : later ≡ with_clusters new zeros claimed) where
     rest_same : later ≡ record new { map = later.map }
     rest_same = subst (λ (m : Meta). m ≡ record new { map = m.map }) (sym is) (zeroed_rest new zeros claimed)

@@ -24,6 +24,7 @@ pub mod ListBegins
 pub mod ListBegun
 pub mod ListMoves
 pub mod ListMarks
+pub mod MarkedKept
 pub mod SnapshotKept
 pub mod DeleteKept
 pub mod EntryPlaces

@@ -1,6 +1,6 @@
 -- The begin of a repair, as a case, and what its job leads to.
 use Rattle.std.proofs.Common.{◌≡◌, ◌≢◌, ◌↔◌, ℕ, ◌<◌, Bool, true, false, List, ◌∷◌, Option, Some, None, refl, sym, ap}
-use Rattle.std.proofs.Common.{[]}
+use Rattle.std.proofs.Common.{[], All}
 use Rattle.std.proofs.Common.{◌∙◌, subst}
 use Rattle.std.proofs.Common.{length, inl, inr}
 use Rattle.std.specs.Prelude.{is_some, take, IsSome}
@@ -16,6 +16,7 @@ use Rattle.blob_meta.specs.Repairs.{after, HasHeadsBelow}
 use Rattle.blob_meta.specs.Resolving.{mark_of, resolved}
 use Rattle.blob_meta.proofs.RepairsInTurn.{repaired_resolves}
 use Rattle.md_chain.specs.Chain.{is_among}
+use Rattle.md_chain.specs.Packing.{FitsPage}
 use Rattle.store_model.specs.Cases.BeginRepair.{BeginsRepair}
 use Rattle.store_model.specs.Jobs.{IsJobPlanned}
 use Rattle.store_model.specs.Maps.{with_option, without_entry, Metas}
@@ -47,6 +48,7 @@ use Rattle.job_begins.specs.declared.repairing.RepairTurn.TheVariants as repair
 use Rattle.job_begins.proofs.ClustersAlone.{erased_moves, moves_same}
 use Rattle.job_begins.proofs.CutClusters.{in_slot}
 use Rattle.job_begins.proofs.JobLaid.{laid}
+use Rattle.job_begins.proofs.JobPlanned.{both_fit}
 
 -- what a repair lacks is what its begin comes to
 pub lack_or_not : {D : Type 0} (d : Ghosts D) (p q : StoreView D) (head : ℕ) (turn : RepairTurn)
@@ -104,12 +106,15 @@ module _ {D : Type 0} (d : Ghosts D) (p : StoreView D) (running : IsRunning (sta
 
     -- ---- a blob that is kept
 
-    module _ (are : AreResolved p.metas p.marked) (new : Meta) (there : map.get p.metas head ≡ Some new) where
+    module _ (are : AreResolved p.metas p.marked) {new : Meta} (there : map.get p.metas head ≡ Some new) where
       pub given : resolved s.base head ≡ Some new
       given = ap (λ (f : Metas). f head) are.resolves ∙ there
 
       pub stored_new : IsStored s.super head new
       stored_new = resolved_stored s.super s.base stored head new given
+
+      pub fits_new : All FitsPage new.xattrs × All FitsPage new.internal
+      fits_new = both_fit new (stored_new.xattrs, stored_new.internal)
 
       old_is : IsOf s.base head new
       old_is = resolved_of s.base head new given

@@ -41,18 +41,18 @@ use Rattle.job_begins.proofs.SnapshotListed as its
 use Rattle.job_begins.proofs.SnapshotListed.{SnapshotTaken}
 use Rattle.job_begins.proofs.SnapshotPlaces.{snapshot_all_kept}
 
-module _ {D : Type 0} (d : Ghosts D) (p : StoreView D) (channel : ℕ) (posted : IsPostedAt p channel)
+module _ {D : Type 0} (d : Ghosts D) {p : StoreView D} {channel : ℕ} (posted : IsPostedAt p channel)
     (running : IsRunning (state_of d p)) (clean : HasNoMarks (base_of p.metas p.marked)) (runs : p.stopped ≡ None)
-    (no_job : p.job ≡ None) (x : SnapshotAsk)
+    (no_job : p.job ≡ None) {x : SnapshotAsk}
     (asks_it : Asks p channel (λ command. AsksToSnapshot (state_of d p) command x)) where
   abbrev s : StoreState
   s = state_of d p
 
   abbrev asks : AsksToSnapshot s posted.waits.command x
-  asks = before.asks d p channel posted running clean runs no_job x asks_it
+  asks = before.asks d posted running clean runs no_job asks_it
 
   abbrev known : IsSnapshotAsked s running clean runs no_job posted.waits.command x asks
-  known = before.known d p channel posted running clean runs no_job x asks_it
+  known = before.known d posted running clean runs no_job asks_it
 
   abbrev commit : Committing
   commit = record {
@@ -190,7 +190,7 @@ module _ {D : Type 0} (d : Ghosts D) (p : StoreView D) (channel : ℕ) (posted :
           live = are.effects.live;
           shown = are.effects.shown;
           chained = ap is_some are.behind;
-          numbered = before.numbered d p channel posted running clean runs no_job x asks_it;
+          numbered = before.numbered d posted running clean runs no_job asks_it;
           few = are.few;
           left = are.left;
         } in

@@ -17,9 +17,9 @@ use Rattle.job_begins.specs.Snapshots.{AsksToSnapshot}
 use Rattle.job_begins.specs.declared.asking.SnapshotAsk.{SnapshotAsk}
 use Rattle.job_begins.proofs.SnapshotAsked.{snapshot_asked, IsSnapshotAsked}
 
-module _ {D : Type 0} (d : Ghosts D) (p : StoreView D) (channel : ℕ) (posted : IsPostedAt p channel)
+module _ {D : Type 0} (d : Ghosts D) {p : StoreView D} {channel : ℕ} (posted : IsPostedAt p channel)
     (running : IsRunning (state_of d p)) (clean : HasNoMarks (base_of p.metas p.marked)) (runs : p.stopped ≡ None)
-    (no_job : p.job ≡ None) (x : SnapshotAsk)
+    (no_job : p.job ≡ None) {x : SnapshotAsk}
     (asks_it : Asks p channel (λ command. AsksToSnapshot (state_of d p) command x)) where
   abbrev s : StoreState
   s = state_of d p

@@ -64,16 +64,16 @@ module _ {D : Type 0} (k : SnapshotTaken D) where
   s = state_of d p
 
   abbrev asks : AsksToSnapshot s posted.waits.command x
-  asks = before.asks d p channel posted running clean runs no_job x asks_it
+  asks = before.asks d posted running clean runs no_job asks_it
 
   abbrev pub known : IsSnapshotAsked s running clean runs no_job posted.waits.command x asks
-  known = before.known d p channel posted running clean runs no_job x asks_it
+  known = before.known d posted running clean runs no_job asks_it
 
   pub placed : IsPlaced p.super
-  placed = before.placed d p channel posted running clean runs no_job x asks_it
+  placed = before.placed d posted running clean runs no_job asks_it
 
   pub used : UsedPages p.super.md_len p.pages s.chains []
-  used = before.used d p channel posted running clean runs no_job x asks_it
+  used = before.used d posted running clean runs no_job asks_it
 
   abbrev begun : Meta
   begun = begun_snapshot x.of known.old x.head known.xattrs
@@ -117,7 +117,7 @@ module _ {D : Type 0} (k : SnapshotTaken D) where
   -- the first place that is taken is the new blob's head,
   first_taken : taken ≡ x.head ∷ drop 1 taken
   first_taken = taken_is p.pages true x.head taken on.pages.least
-      (λ _. before.next_head d p channel posted running clean runs no_job x asks_it) (λ _. some)
+      (λ _. before.next_head d posted running clean runs no_job asks_it) (λ _. some)
 
   least_from : AreLeastClear p.pages (x.head ∷ drop 1 taken)
   least_from = subst (AreLeastClear p.pages) first_taken on.pages.least

@@ -155,13 +155,15 @@ module _ (f : Fixed) (b : Blobs) (of head : ℕ) (old : Meta) (xattrs : Xattrs) 
       finishes.change shown_room
   all = record {
     begins = record { head_is = refl; new_is = refl; shows_is = refl };
-    fills = record { head_is = refl; new_is = refl; shows_is = refl };
-    commits = record { head_is = refl; new_is = refl; shows_is = refl };
-    finishes = record { head_is = refl; new_is = refl; shows_is = refl };
     room_begins = places_begin;
-    room_fills = places_fill;
-    room_commits = places_commit;
-    room_finishes = places_finish;
+    others = record {
+      begins = record { head_is = refl; new_is = refl; shows_is = refl };
+      commits = record { head_is = refl; new_is = refl; shows_is = refl };
+      finishes = record { head_is = refl; new_is = refl; shows_is = refl };
+      room_begins = places_fill;
+      room_commits = places_commit;
+      room_finishes = places_finish;
+    };
   }
 
   -- The four, in this order, can all be kept.

@@ -1,5 +1,6 @@
 pub mod Moving
 pub mod Counting
+pub mod OrderKept
 pub mod Maps
 pub mod Resolved
 pub mod Without

@@ -8,7 +8,8 @@ use Rattle.volume_model.specs.Names.{IsName}
 use Rattle.volume_model.specs.Volumes.{Fixed, head_of, two_xattrs, Volume, Volumes}
 use Rattle.volume_model.specs.Xattrs.{Text, Xattrs}
 use Rattle.volume_model.specs.Refusals.{refusal}
-use Rattle.volume_model.specs.Steps.{change}
+use Rattle.volume_model.specs.Steps.{change, named_head}
+use Rattle.volume_model.specs.declared.command.Command.{Command}
 use Rattle.volume_model.specs.declared.command.Command.TheVariants as c
 use Rattle.volume_model.specs.declared.command.VolumeRef.{VolumeRef}
 use Rattle.volume_model.specs.declared.reply.Reply.TheVariants as r_
@@ -59,27 +60,54 @@ module _ (known : Known) (unmarked : HasNoMarks known.p.base) where
     clear : IsClear f p.base head
     clear = record { none = none; low = low }
 
-    module _ (image : Image) where
-      two_now : two_xattrs f (shown (reading p image)) name None ≡ xattrs
-      two_now = two_same f (shown (reading p image)) (shown p) (blank_reading p image) name None
+    abbrev now : Image → Volumes
+    now image = shown (reading p image)
 
-      free : shown (reading p image) head ≡ None
+    -- the volumes behind a step that makes the copy
+    abbrev copied_by : Command → Image → Volumes
+    copied_by command image = change f (now image) command (r_.Made head)
+
+    module _ (image : Image) where
+      two_now : two_xattrs f (now image) name None ≡ xattrs
+      two_now = two_same f (now image) (shown p) (blank_reading p image) name None
+
+      free : now image head ≡ None
       free = rw none refl
 
-    -- the volumes of a step by which the new one alone has other attributes
-    module _ (w : Image → Volumes) (at_head : (image : Image)
-        → live_of (w image) head ≡ Some (two_xattrs f (shown (reading p image)) name None))
-        (others : (image : Image) (h : ℕ) → h ≢ head → live_of (w image) h ≡ live_of (shown (reading p image)) h) where
-      here : (image : Image) → live_of (w image) head ≡ Some xattrs
-      here image = at_head image ∙ ap (λ (xs : Xattrs). Some xs) (two_now image)
+      abbrev copied_of : Volume
+      copied_of = its known unmarked image of old
 
-      lives_of_copy : (image : Image) → live_of (w image) ≡ with_option p.live head (Some xattrs)
-      lives_of_copy image = lives_changed (reading p image) well.live well.no_live (w image) head (Some xattrs)
-          (here image) (others image)
+      is_there : now image of ≡ Some copied_of
+      is_there = is_its known unmarked image of old there
 
-      writable_copy : (image : Image) → AllWritable (w image)
-      writable_copy image = writable_changed (reading p image) well.live well.no_live (w image) head (Some xattrs)
-          (here image) (others image) (λ xs is. let one : xattrs ≡ xs = cc is in subst CanBeWritten one can)
+    -- what is known of a command that makes the copy, whatever an image holds
+    record IsCopied (command : Command) : Type 0 where
+      passed : (image : Image) → refusal f (now image) command ≡ None
+      lives : (image : Image) → live_of (copied_by command image) ≡ with_option p.live head (Some xattrs)
+      writable : (image : Image) → AllWritable (copied_by command image)
+
+    -- it is so where the step leaves the attributes of the others as they are
+    module _ (command : Command) (asked : refusal f (shown p) command ≡ None)
+        (names : named_head f (shown p) command ≡ Some of)
+        (at_head : (image : Image) → named_head f (now image) command ≡ Some of
+        → live_of (copied_by command image) head ≡ Some (two_xattrs f (now image) name None))
+        (others : (image : Image) → named_head f (now image) command ≡ Some of → (h : ℕ) → h ≢ head
+        → live_of (copied_by command image) h ≡ live_of (now image) h) where
+      found_now : (image : Image) → named_head f (now image) command ≡ Some of
+      found_now image = same_named f (now image) (shown p) (blank_reading p image) command ∙ names
+
+      here : (image : Image) → live_of (copied_by command image) head ≡ Some xattrs
+      here image = at_head image (found_now image) ∙ ap (λ (xs : Xattrs). Some xs) (two_now image)
+
+      copied : IsCopied command
+      copied = record {
+        passed = λ image. same_refusal f (now image) (shown p) (blank_reading p image) command ∙ asked;
+        lives = λ image. lives_changed (reading p image) well.live well.no_live (copied_by command image) head
+            (Some xattrs) (here image) (others image (found_now image));
+        writable = λ image. writable_changed (reading p image) well.live well.no_live (copied_by command image) head
+            (Some xattrs) (here image) (others image (found_now image))
+            (λ xs is. let one : xattrs ≡ xs = cc is in subst CanBeWritten one can);
+      }
 
     -- a clone
     pub clone_family : refusal f (shown p) (c.Clone volume name) ≡ None
@@ -91,36 +119,20 @@ module _ (known : Known) (unmarked : HasNoMarks known.p.base) where
           (few_heads known unmarked);
       metadata = tt;
       done = tt;
-      allowed = λ image. (
-        same_refusal f (shown (reading p image)) (shown p) (blank_reading p image) (c.Clone volume name) ∙ asked,
-        (low, free image),
-      );
+      allowed = λ image. (cloned.passed image, (low, free image));
       may_fail = λ image. tt;
-      lives = lives_of_copy (λ image. change f (shown (reading p image)) (c.Clone volume name) (r_.Made head))
-          at_head others;
-      writable = writable_copy (λ image. change f (shown (reading p image)) (c.Clone volume name) (r_.Made head))
-          at_head others;
+      lives = cloned.lives;
+      writable = cloned.writable;
       there = (ap is_some (given_here p.base head (new_clone of old head xattrs) head refl), tt);
       gone = λ h out. inl out;
     }
       where
-        found_now : (image : Image) → head_of f (shown (reading p image)) volume ≡ Some of
-        found_now image =
-            same_named f (shown (reading p image)) (shown p) (blank_reading p image) (c.Clone volume name) ∙ found
-
-        at_head : (image : Image)
-            → live_of (change f (shown (reading p image)) (c.Clone volume name) (r_.Made head)) head
-            ≡ Some (two_xattrs f (shown (reading p image)) name None)
-        at_head image = ap (λ o. option_map (λ (x : Volume). x.live) o)
-            (clones.stepped_head f (shown (reading p image)) volume name of head (its known unmarked image of old)
-            (found_now image) (is_its known unmarked image of old there))
-
-        others : (image : Image) (h : ℕ) → h ≢ head
-            → live_of (change f (shown (reading p image)) (c.Clone volume name) (r_.Made head)) h
-            ≡ live_of (shown (reading p image)) h
-        others image h ne = ap (λ o. option_map (λ (x : Volume). x.live) o)
-            (clones.stepped_else f (shown (reading p image)) volume name of head (its known unmarked image of old)
-            (found_now image) (is_its known unmarked image of old there) h ne)
+        cloned : IsCopied (c.Clone volume name)
+        cloned = copied (c.Clone volume name) asked found
+            (λ image is. ap (λ o. option_map (λ (x : Volume). x.live) o)
+            (clones.stepped_head f (now image) volume name of head (copied_of image) is (is_there image)))
+            (λ image is h ne. ap (λ o. option_map (λ (x : Volume). x.live) o)
+            (clones.stepped_else f (now image) volume name of head (copied_of image) is (is_there image) h ne))
 
     -- a snapshot: the volume is renewed too
     pub snapshot_family : refusal f (shown p) (c.Snapshot volume name) ≡ None
@@ -133,15 +145,10 @@ module _ (known : Known) (unmarked : HasNoMarks known.p.base) where
           (few_heads known unmarked);
       metadata = tt;
       done = tt;
-      allowed = λ image. (
-        same_refusal f (shown (reading p image)) (shown p) (blank_reading p image) (c.Snapshot volume name) ∙ asked,
-        (low, free image),
-      );
+      allowed = λ image. (taken.passed image, (low, free image));
       may_fail = λ image. tt;
-      lives = lives_of_copy (λ image. change f (shown (reading p image)) (c.Snapshot volume name) (r_.Made head))
-          at_head others;
-      writable = writable_copy (λ image. change f (shown (reading p image)) (c.Snapshot volume name) (r_.Made head))
-          at_head others;
+      lives = taken.lives;
+      writable = taken.writable;
       there = (there_of, (there_head, tt));
       gone = λ h out.
           let first = not_first h of (head ∷ []) out in
@@ -161,30 +168,23 @@ module _ (known : Known) (unmarked : HasNoMarks known.p.base) where
         not_replaced : (h : ℕ) → head ≢ h → of ≢ h → replaces (snapshot_job of old head xattrs) h ≡ false
         not_replaced h ne other = rw (ne_eqb head h ne, ne_eqb of h other) refl
 
-        found_now : (image : Image) → head_of f (shown (reading p image)) volume ≡ Some of
-        found_now image =
-            same_named f (shown (reading p image)) (shown p) (blank_reading p image) (c.Snapshot volume name) ∙ found
+        -- the volume's attributes are as they were too
+        others : (image : Image) → head_of f (now image) volume ≡ Some of → (h : ℕ) → h ≢ head
+            → live_of (copied_by (c.Snapshot volume name) image) h ≡ live_of (now image) h
+        others image is h ne = elim (cases_eq h of) [
+          | inl e ↦
+              ap (live_of (copied_by (c.Snapshot volume name) image)) e
+              ∙ ap (λ o. option_map (λ (y : Volume). y.live) o)
+              (snapshots.stepped_of f (now image) volume name of head (copied_of image) is (is_there image) apart)
+              ∙ sym (is_live (now image) of (copied_of image) (is_there image)) ∙ ap (live_of (now image)) (sym e)
+          | inr other ↦
+              ap (λ o. option_map (λ (y : Volume). y.live) o)
+              (snapshots.stepped_else f (now image) volume name of head (copied_of image) is (is_there image) h ne
+              other)
+        ]
 
-        at_head : (image : Image)
-            → live_of (change f (shown (reading p image)) (c.Snapshot volume name) (r_.Made head)) head
-            ≡ Some (two_xattrs f (shown (reading p image)) name None)
-        at_head image = ap (λ o. option_map (λ (x : Volume). x.live) o)
-            (snapshots.stepped_head f (shown (reading p image)) volume name of head (its known unmarked image of old)
-            (found_now image) (is_its known unmarked image of old there))
-
-        others : (image : Image) (h : ℕ) → h ≢ head
-            → live_of (change f (shown (reading p image)) (c.Snapshot volume name) (r_.Made head)) h
-            ≡ live_of (shown (reading p image)) h
-        others image h ne =
-            let v = shown (reading p image) in
-            let x = its known unmarked image of old in
-            let is = is_its known unmarked image of old there in
-            elim (cases_eq h of) [
-              | inl e ↦
-                  ap (live_of (change f v (c.Snapshot volume name) (r_.Made head))) e
-                  ∙ ap (λ o. option_map (λ (y : Volume). y.live) o)
-                  (snapshots.stepped_of f v volume name of head x (found_now image) is apart)
-                  ∙ sym (is_live v of x is) ∙ ap (live_of v) (sym e)
-              | inr other ↦ ap (λ o. option_map (λ (y : Volume). y.live) o)
-                  (snapshots.stepped_else f v volume name of head x (found_now image) is h ne other)
-            ]
+        taken : IsCopied (c.Snapshot volume name)
+        taken = copied (c.Snapshot volume name) asked found
+            (λ image is. ap (λ o. option_map (λ (x : Volume). x.live) o)
+            (snapshots.stepped_head f (now image) volume name of head (copied_of image) is (is_there image)))
+            others

@@ -1,16 +1,16 @@
-use Rattle.std.proofs.Common.{◌≡◌, ◌<◌, ◌+◌, ◌^◌, ◌≤◌, length, Some, sym, ap, subst, ◌∙◌, arith, rules}
-use Rattle.std.specs.Prelude.{slice_set, vec_capacity}
+use Rattle.std.proofs.Common.{◌<◌, length, Some, refl, sym, ap, subst, ◌∙◌, arith}
+use Rattle.std.specs.Prelude.{slice_set}
 use Rattle.store_model.specs.Cases.{Begins}
 use Rattle.store_model.specs.Rows.{InJob, Row}
 use Rattle.store_model.specs.StoreState.{JobState}
 use Rattle.running_store.specs.Blobs.{blobs_of, WillBeKept}
 use Rattle.running_store.specs.Jobs.{job_seen, IsHeaded}
-use Rattle.running_store.specs.Running.{left_in, view_of}
+use Rattle.running_store.specs.Running.{view_of}
 use Rattle.running_store.specs.StoreView.{rows_of, state_of}
 use Rattle.running_store.specs.declared.job.RunningJob.{RunningJob}
 use Rattle.running_store.proofs.JobLeft.{seen_with_mark}
 use Rattle.running_store.specs.declared.running.Running.{Running}
-use Rattle.running_store.proofs.Counting.{left_same}
+use Rattle.running_store.proofs.OrderKept.{job_on, order_kept, room_with}
 use Rattle.job_begins.proofs.JobBegin.{indexed_row, refused}
 use Rattle.job_begins.proofs.begin.begin.Goals as goal
 
@@ -41,26 +41,11 @@ returns-in-Ok-clause-order g c =
     let q = c.job_asked.new.running in
     let order = c.job_asked.ensures.order in
     let low : c.args.channel < length q.rows.items = omega (arith, c.requires.channel, order.seventeen) in
-    let same : left_in (slice_set q.rows.items c.args.channel c.serve.new.self) ≡ left_in q.rows.items =
-    left_same q.rows.items c.args.channel c.serve.new.self c.index_mut.result.now low
-    (ap (λ (r : Row). length r.left) (sym c.index_mut.ensures.value)
-    ∙ sym (ap (λ (r : Row). length r.left) c.serve.ensures)) in
-    record {
-      inside = order.inside;
-      device = order.device;
-      seventeen = search (rules);
-      entries = subst (λ n. length q.entries.items + n ≤ vec_capacity q.entries) (sym same) order.entries;
-      marks = subst (λ n. length q.marks.items + n ≤ vec_capacity q.marks) (sym same) order.marks;
-      few = subst (λ n. length q.entries.items + n < 2 ^ 31) (sym same) order.few;
-      counts = order.counts;
-      counted = order.counted;
-      no_page = order.no_page;
-      no_cluster = order.no_cluster;
-      headed = subst IsHeaded (sym c.with_mark.ensures) c.in-Ok.ensures.headed;
-      heads = order.heads;
-      resolves = order.resolves;
-      kept = subst (WillBeKept (blobs_of q)) (sym c.with_mark.ensures) c.in-Ok.ensures.kept;
-    }
+    order_kept g.D.PageDisk q order refl refl (room_with g.D.PageDisk q order c.args.channel c.serve.new.self
+    c.index_mut.result.now low (ap (λ (r : Row). length r.left) (sym c.index_mut.ensures.value)
+    ∙ sym (ap (λ (r : Row). length r.left) c.serve.ensures))) order.no_page order.no_cluster
+    (job_on g.D.PageDisk q order (subst IsHeaded (sym c.with_mark.ensures) c.in-Ok.ensures.headed)
+    (subst (WillBeKept (blobs_of q)) (sym c.with_mark.ensures) c.in-Ok.ensures.kept))
 
 pub returns-in-Err-clause-logged : goal.returns-in-Err-clause-logged
 returns-in-Err-clause-logged g c = λ _.

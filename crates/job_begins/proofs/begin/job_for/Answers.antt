@@ -3,8 +3,6 @@ use Rattle.std.proofs.Common.{None, Option, Some, refl}
 use Rattle.std.specs.Prelude.{is_some, not, IsSome}
 use Rattle.std.specs.Option.{option_map}
 use Rattle.pools.specs.Pool.{PoolState}
-use Rattle.volume_model.specs.declared.reply.Reply.{Reply}
-use Rattle.store_model.specs.Cases.{IsRefusedAtBegin}
 use Rattle.store_model.specs.Maps.{Metas}
 use Rattle.store_model.specs.Places.{AreDistinct}
 use Rattle.store_model.specs.Rows.{Row}
@@ -16,16 +14,14 @@ use Rattle.running_store.specs.Effects.{commit_seen, cut_clusters, AreEffects}
 use Rattle.running_store.specs.Jobs.{job_seen}
 use Rattle.running_store.specs.Blobs.{blobs_of, CanAllBeKept}
 use Rattle.running_store.specs.Running.{view_of}
-use Rattle.running_store.specs.StoreView.{rows_of, state_of}
-use Rattle.running_store.specs.Steps.{Asks}
+use Rattle.running_store.specs.StoreView.{rows_of}
 use Rattle.store_model.specs.Phases.{Committing}
 use Rattle.running_store.specs.declared.replacements.Commit.{Commit}
 use Rattle.running_store.proofs.Resolved.{unmarked_base}
 use Rattle.job_begins.proofs.JobPlaces.{pool_again, same_pool, taken_in_use}
 use Rattle.job_begins.proofs.JobTaken.{first_cluster, has_one, internal_fit, job_begins, job_kept}
-use Rattle.job_begins.proofs.JobTaken.{lacks_clusters, lacks_pages, next_head, no_memory, once, slots_within}
+use Rattle.job_begins.proofs.JobTaken.{lacks_clusters, lacks_memory, lacks_pages, next_head, once, slots_within}
 use Rattle.job_begins.proofs.JobTaken.{was_there, xattrs_fit}
-use Rattle.job_begins.proofs.PassedOn.{passed_on}
 use Rattle.job_begins.proofs.begin.job_for.Goals as goal
 
 -- what has a commit in the model has one
@@ -35,59 +31,41 @@ commits_some (Some c) m is = refl
 
 pub fill_slots-requires-clause-within : goal.fill_slots-requires-clause-within
 fill_slots-requires-clause-within g c =
-    slots_within g.D.PageDisk (view_of c.args.running.now) c.args.channel c.requires.posted c.requires.running
-    c.requires.unmarked c.requires.runs c.args.head c.args.new c.args.zeros.now c.requires.asks
+    slots_within g.D.PageDisk c.requires.posted c.requires.running c.requires.unmarked c.requires.runs c.requires.asks
 
 pub fill_slots-requires-clause-first : goal.fill_slots-requires-clause-first
 fill_slots-requires-clause-first g c =
-    first_cluster g.D.PageDisk (view_of c.args.running.now) c.args.channel c.requires.posted c.requires.running
-    c.requires.unmarked c.requires.runs c.args.head c.args.new c.args.zeros.now c.requires.asks
+    first_cluster g.D.PageDisk c.requires.posted c.requires.running c.requires.unmarked c.requires.runs c.requires.asks
 
 pub returns-in_err-effects-clause-lack : goal.returns-in_err-effects-clause-lack
 returns-in_err-effects-clause-lack g c =
-    let refused = λ (reply : Reply). Asks (view_of c.args.running.now) c.args.channel
-    (λ command. IsRefusedAtBegin (state_of g.D.PageDisk (view_of c.args.running.now)) command reply) in
-    passed_on c.from_residual.result c.from_residual.ensures.1 refused
-    (no_memory g.D.PageDisk (view_of c.args.running.now) c.args.channel c.requires.posted
-    c.requires.running
-    c.requires.unmarked c.requires.runs c.args.head c.args.new c.args.zeros.now c.requires.asks)
+    lacks_memory g.D.PageDisk c.requires.posted c.requires.running c.requires.unmarked c.requires.runs c.requires.asks
+    c.from_residual.result c.from_residual.ensures.1
 
 pub returns-in_err-effects-2-clause-lack : goal.returns-in_err-effects-2-clause-lack
 returns-in_err-effects-2-clause-lack g c =
-    let refused = λ (reply : Reply). Asks (view_of c.args.running.now) c.args.channel
-    (λ command. IsRefusedAtBegin (state_of g.D.PageDisk (view_of c.args.running.now)) command reply) in
-    passed_on c.from_residual-in_err-effects-2.result c.from_residual-in_err-effects-2.ensures.1 refused
-    (no_memory g.D.PageDisk (view_of c.args.running.now) c.args.channel c.requires.posted
-    c.requires.running
-    c.requires.unmarked c.requires.runs c.args.head c.args.new c.args.zeros.now c.requires.asks)
+    lacks_memory g.D.PageDisk c.requires.posted c.requires.running c.requires.unmarked c.requires.runs c.requires.asks
+    c.from_residual-in_err-effects-2.result c.from_residual-in_err-effects-2.ensures.1
 
 pub lack_beside_clusters-requires-clause-xattrs : goal.lack_beside_clusters-requires-clause-xattrs
 lack_beside_clusters-requires-clause-xattrs g c =
-    xattrs_fit g.D.PageDisk (view_of c.args.running.now) c.args.channel c.requires.posted c.requires.running
-    c.requires.unmarked c.requires.runs c.args.head c.args.new c.args.zeros.now c.requires.asks
-    c.in_ok-effects-2.field-0 c.in_ok-effects-2.ensures.claimed
-    c.fill_slots.new.new c.in_ok-effects-2.ensures.filled
+    xattrs_fit g.D.PageDisk c.requires.posted c.requires.running c.requires.unmarked c.requires.runs c.requires.asks
+    c.in_ok-effects-2.ensures.claimed c.in_ok-effects-2.ensures.filled
 
 pub lack_beside_clusters-requires-clause-internal : goal.lack_beside_clusters-requires-clause-internal
 lack_beside_clusters-requires-clause-internal g c =
-    internal_fit g.D.PageDisk (view_of c.args.running.now) c.args.channel c.requires.posted c.requires.running
-    c.requires.unmarked c.requires.runs c.args.head c.args.new c.args.zeros.now c.requires.asks
-    c.in_ok-effects-2.field-0 c.in_ok-effects-2.ensures.claimed
-    c.fill_slots.new.new c.in_ok-effects-2.ensures.filled
+    internal_fit g.D.PageDisk c.requires.posted c.requires.running c.requires.unmarked c.requires.runs c.requires.asks
+    c.in_ok-effects-2.ensures.claimed c.in_ok-effects-2.ensures.filled
 
 pub prepare-requires-clause-xattrs : goal.prepare-requires-clause-xattrs
 prepare-requires-clause-xattrs g c =
-    xattrs_fit g.D.PageDisk (view_of c.args.running.now) c.args.channel c.requires.posted c.requires.running
-    c.requires.unmarked c.requires.runs c.args.head c.args.new c.args.zeros.now c.requires.asks
-    c.in_ok-effects-2.field-0 c.in_ok-effects-2.ensures.claimed
-    c.fill_slots.new.new c.in_ok-effects-2.ensures.filled
+    xattrs_fit g.D.PageDisk c.requires.posted c.requires.running c.requires.unmarked c.requires.runs c.requires.asks
+    c.in_ok-effects-2.ensures.claimed c.in_ok-effects-2.ensures.filled
 
 pub prepare-requires-clause-internal : goal.prepare-requires-clause-internal
 prepare-requires-clause-internal g c =
-    internal_fit g.D.PageDisk (view_of c.args.running.now) c.args.channel c.requires.posted c.requires.running
-    c.requires.unmarked c.requires.runs c.args.head c.args.new c.args.zeros.now c.requires.asks
-    c.in_ok-effects-2.field-0 c.in_ok-effects-2.ensures.claimed
-    c.fill_slots.new.new c.in_ok-effects-2.ensures.filled
+    internal_fit g.D.PageDisk c.requires.posted c.requires.running c.requires.unmarked c.requires.runs c.requires.asks
+    c.in_ok-effects-2.ensures.claimed c.in_ok-effects-2.ensures.filled
 
 pub returns-then-len-clause-lack : goal.returns-then-len-clause-lack
 returns-then-len-clause-lack g c =
@@ -96,24 +74,20 @@ returns-then-len-clause-lack g c =
     let fewer = c.if-len.true in
     let less : length c.in_ok-effects-2.field-0 < length c.args.zeros.now = omega (arith, claimed, wanted, fewer) in
     let there = was_there c.is_some-makes.result _ (c.is_some-makes.ensures ∙ c.in_ok-effects.ensures.are.makes) in
-    lacks_clusters g.D.PageDisk (view_of c.args.running.now) c.args.channel c.requires.posted c.requires.running
-    c.requires.unmarked c.requires.runs c.args.head c.args.new c.args.zeros.now c.requires.asks
-    c.in_ok-effects-2.field-0 c.in_ok-effects-2.ensures.claimed
-    c.fill_slots.new.new c.in_ok-effects-2.ensures.filled
+    lacks_clusters g.D.PageDisk c.requires.posted c.requires.running c.requires.unmarked c.requires.runs c.requires.asks
+    c.in_ok-effects-2.ensures.claimed c.in_ok-effects-2.ensures.filled
     (ap (λ o. option_map job_seen o) c.requires.no_job) less (not c.is_some-makes.result) there
     c.lack_beside_clusters.result c.lack_beside_clusters.ensures
 
 pub prepare-requires-clause-there : goal.prepare-requires-clause-there
 prepare-requires-clause-there g c = λ stays.
-    has_one g.D.PageDisk (view_of c.args.running.now) c.args.channel c.requires.posted c.requires.running
-    c.requires.unmarked c.requires.runs c.args.head c.args.new c.args.zeros.now c.requires.asks
+    has_one g.D.PageDisk c.requires.posted c.requires.running c.requires.unmarked c.requires.runs c.requires.asks
     c.is_some-makes.result
     (was_there c.is_some-makes.result _ (c.is_some-makes.ensures ∙ c.in_ok-effects.ensures.are.makes)) stays
 
 pub prepare-requires-clause-next : goal.prepare-requires-clause-next
 prepare-requires-clause-next g c = λ makes.
-    next_head g.D.PageDisk (view_of c.args.running.now) c.args.channel c.requires.posted c.requires.running
-    c.requires.unmarked c.requires.runs c.args.head c.args.new c.args.zeros.now c.requires.asks
+    next_head g.D.PageDisk c.requires.posted c.requires.running c.requires.unmarked c.requires.runs c.requires.asks
     c.is_some-makes.result
     (was_there c.is_some-makes.result _ (c.is_some-makes.ensures ∙ c.in_ok-effects.ensures.are.makes)) makes
 
@@ -121,8 +95,7 @@ pub job-requires-clause-once : goal.job-requires-clause-once
 job-requires-clause-once g c = subst AreDistinct (sym c.in_ok-effects.ensures.are.freed)
     (subst (λ (m : Metas). AreDistinct (cut_clusters (m c.args.head) c.args.new))
     (unmarked_base c.args.running.now.metas c.args.running.now.marked c.requires.order.resolves c.requires.unmarked)
-    (once g.D.PageDisk (view_of c.args.running.now) c.args.channel c.requires.posted c.requires.running
-    c.requires.unmarked c.requires.runs c.args.head c.args.new c.args.zeros.now c.requires.asks))
+    (once g.D.PageDisk c.requires.posted c.requires.running c.requires.unmarked c.requires.runs c.requires.asks))
 
 pub clear_places-requires-clause-distinct : goal.clear_places-requires-clause-distinct
 clear_places-requires-clause-distinct g c =
@@ -156,10 +129,8 @@ returns-in-Ok-clause-begins g c =
     (sym (unmarked_base p.metas p.marked c.requires.order.resolves c.requires.unmarked))
     (subst (λ (k : Command). AreEffects chained c.args.head (map.get p.metas c.args.head) k live c.args.new []
     c.in_ok-effects.effects) asked c.in_ok-effects.ensures.are) in
-    job_begins g.D.PageDisk (view_of c.args.running.now) c.args.channel c.requires.posted c.requires.running
-    c.requires.unmarked c.requires.runs c.args.head c.args.new c.args.zeros.now c.requires.asks
-    c.in_ok-effects-2.field-0 c.in_ok-effects-2.ensures.claimed
-    c.fill_slots.new.new c.in_ok-effects-2.ensures.filled
+    job_begins g.D.PageDisk c.requires.posted c.requires.running c.requires.unmarked c.requires.runs c.requires.asks
+    c.in_ok-effects-2.ensures.claimed c.in_ok-effects-2.ensures.filled
     (ap (λ o. option_map job_seen o) c.requires.no_job) c.requires.unfilled low all c.in_ok-effects.effects
     are c.prepare.new.pages.bits c.fill_slots.new.clusters.bits
     c.in_ok-effects-2.ensures.bits c.in-Ok.prepared prepared c.cluster_pages-cluster_pages.result
@@ -179,10 +150,8 @@ returns-in-Ok-clause-kept g c =
     running.pages.bits c.prepare.new.pages.bits c.in-Ok.prepared) c.is_some-makes.ensures c.in-Ok.ensures.prepared in
     let are = c.in_ok-effects.ensures.are in
     subst (CanAllBeKept (blobs_of running)) (sym c.job.ensures.coming) (
-      job_kept g.D.PageDisk (view_of running) c.args.channel c.requires.posted c.requires.running
-          c.requires.unmarked c.requires.runs c.args.head c.args.new c.args.zeros.now c.requires.asks
-          c.in_ok-effects-2.field-0 c.in_ok-effects-2.ensures.claimed
-          c.fill_slots.new.new c.in_ok-effects-2.ensures.filled
+      job_kept g.D.PageDisk c.requires.posted c.requires.running c.requires.unmarked c.requires.runs c.requires.asks
+          c.in_ok-effects-2.ensures.claimed c.in_ok-effects-2.ensures.filled
           (ap (λ o. option_map job_seen o) c.requires.no_job) all c.in_ok-effects.effects are.shows
           (was_there (is_some c.in_ok-effects.effects.rooms.chain) _ are.makes) c.in_ok-effects.ensures.places
           c.prepare.new.pages.bits c.in-Ok.prepared prepared c.requires.order.resolves,
@@ -191,10 +160,8 @@ returns-in-Ok-clause-kept g c =
 
 pub returns-in-Err-clause-lack : goal.returns-in-Err-clause-lack
 returns-in-Err-clause-lack g c =
-    lacks_pages g.D.PageDisk (view_of c.args.running.now) c.args.channel c.requires.posted c.requires.running
-    c.requires.unmarked c.requires.runs c.args.head c.args.new c.args.zeros.now c.requires.asks
-    c.in_ok-effects-2.field-0 c.in_ok-effects-2.ensures.claimed
-    c.fill_slots.new.new c.in_ok-effects-2.ensures.filled
+    lacks_pages g.D.PageDisk c.requires.posted c.requires.running c.requires.unmarked c.requires.runs c.requires.asks
+    c.in_ok-effects-2.ensures.claimed c.in_ok-effects-2.ensures.filled
     (ap (λ o. option_map job_seen o) c.requires.no_job) c.in-Err.reply c.in-Err.ensures.lack
 
 pub returns-in-Err-clause-same : goal.returns-in-Err-clause-same

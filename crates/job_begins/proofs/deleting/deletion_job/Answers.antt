@@ -10,24 +10,20 @@ use Rattle.running_store.specs.StoreView.{state_of}
 use Rattle.job_begins.proofs.DeletionAsked.{chain_of, chain_of_clone, going_low, going_stored, taking_low}
 use Rattle.job_begins.proofs.DeletionAsked.{taking_stored}
 use Rattle.job_begins.proofs.DeletionBegins.{asked_at, begins_deletion, for_memory, for_short, keeps_deletion}
-use Rattle.job_begins.proofs.JobPlanned.{all_fit}
+use Rattle.job_begins.proofs.JobPlanned.{both_fit}
 use Rattle.job_begins.proofs.RepairBegins.{room}
 use Rattle.job_begins.proofs.PassedOn.{passed_on}
 use Rattle.job_begins.proofs.deleting.deletion_job.Goals as goal
 
 pub parts_of-requires-clause-chain : goal.parts_of-requires-clause-chain
 parts_of-requires-clause-chain g c =
-    let p = view_of c.args.running.now in
-    chain_of (state_of g.D.PageDisk p) c.requires.running c.requires.unmarked c.requires.runs
-    c.requires.posted.waits.command c.args.ask
-    (asked_at g.D.PageDisk p c.args.channel c.requires.posted c.args.ask c.requires.asks)
+    chain_of c.requires.running c.requires.unmarked c.requires.runs
+    (asked_at g.D.PageDisk c.requires.posted c.requires.asks)
 
 pub parts_of-requires-clause-chain_of_clone : goal.parts_of-requires-clause-chain_of_clone
 parts_of-requires-clause-chain_of_clone g c =
-    let p = view_of c.args.running.now in
-    chain_of_clone (state_of g.D.PageDisk p) c.requires.running c.requires.unmarked c.requires.runs
-    c.requires.posted.waits.command c.args.ask
-    (asked_at g.D.PageDisk p c.args.channel c.requires.posted c.args.ask c.requires.asks)
+    chain_of_clone c.requires.running c.requires.unmarked c.requires.runs
+    (asked_at g.D.PageDisk c.requires.posted c.requires.asks)
 
 pub parts_of-requires-clause-room : goal.parts_of-requires-clause-room
 parts_of-requires-clause-room g c =
@@ -35,33 +31,25 @@ parts_of-requires-clause-room g c =
 
 pub parts_of-requires-clause-taking_low : goal.parts_of-requires-clause-taking_low
 parts_of-requires-clause-taking_low g c =
-    let p = view_of c.args.running.now in
-    taking_low (state_of g.D.PageDisk p) c.requires.running c.requires.unmarked c.requires.runs
-    c.requires.posted.waits.command c.args.ask
-    (asked_at g.D.PageDisk p c.args.channel c.requires.posted c.args.ask c.requires.asks)
+    taking_low c.requires.running c.requires.unmarked c.requires.runs
+    (asked_at g.D.PageDisk c.requires.posted c.requires.asks)
 
 pub parts_of-requires-clause-going_low : goal.parts_of-requires-clause-going_low
 parts_of-requires-clause-going_low g c =
-    let p = view_of c.args.running.now in
-    going_low (state_of g.D.PageDisk p) c.requires.running c.requires.unmarked c.requires.runs
-    c.requires.posted.waits.command c.args.ask
-    (asked_at g.D.PageDisk p c.args.channel c.requires.posted c.args.ask c.requires.asks)
+    going_low c.requires.running c.requires.unmarked c.requires.runs
+    (asked_at g.D.PageDisk c.requires.posted c.requires.asks)
 
 pub parts_of-requires-clause-going : goal.parts_of-requires-clause-going
 parts_of-requires-clause-going g c =
-    let p = view_of c.args.running.now in
-    let can = going_stored (state_of g.D.PageDisk p) c.requires.running c.requires.unmarked c.requires.runs
-    c.requires.posted.waits.command c.args.ask
-    (asked_at g.D.PageDisk p c.args.channel c.requires.posted c.args.ask c.requires.asks) in
-    (all_fit c.args.ask.going.xattrs can.xattrs, all_fit c.args.ask.going.internal can.internal)
+    let can = going_stored c.requires.running c.requires.unmarked c.requires.runs
+    (asked_at g.D.PageDisk c.requires.posted c.requires.asks) in
+    both_fit c.args.ask.going (can.xattrs, can.internal)
 
 pub parts_of-requires-clause-taking : goal.parts_of-requires-clause-taking
 parts_of-requires-clause-taking g c =
-    let p = view_of c.args.running.now in
-    let can = taking_stored (state_of g.D.PageDisk p) c.requires.running c.requires.unmarked c.requires.runs
-    c.requires.posted.waits.command c.args.ask
-    (asked_at g.D.PageDisk p c.args.channel c.requires.posted c.args.ask c.requires.asks) in
-    (all_fit c.args.ask.taking.xattrs can.xattrs, all_fit c.args.ask.taking.internal can.internal)
+    let can = taking_stored c.requires.running c.requires.unmarked c.requires.runs
+    (asked_at g.D.PageDisk c.requires.posted c.requires.asks) in
+    both_fit c.args.ask.taking (can.xattrs, can.internal)
 
 -- ---- what it lacks
 
@@ -88,7 +76,7 @@ returns-clause-begins g c =
     let low : c.args.channel < length p.rows = omega (arith, c.requires.channel, c.requires.order.seventeen) in
     IfOk-weaker c.job.result _ _ (λ job on. begins_deletion d p c.requires.running c.requires.unmarked c.requires.runs
     (ap (λ o. option_map job_seen o) c.requires.no_job) c.requires.posted.waits.command c.args.ask
-    (asked_at d p c.args.channel c.requires.posted c.args.ask c.requires.asks) c.in_ok-parts.parts
+    (asked_at d c.requires.posted c.requires.asks) c.in_ok-parts.parts
     c.in_ok-parts.ensures c.args.channel c.job.new.pages.bits job on c.requires.posted refl c.requires.unfilled low)
     c.job.ensures.job
 
@@ -98,5 +86,5 @@ returns-clause-kept g c =
     let p = view_of c.args.running.now in
     IfOk-weaker c.job.result _ _ (λ job on. keeps_deletion d p c.requires.running c.requires.unmarked c.requires.runs
     (ap (λ o. option_map job_seen o) c.requires.no_job) c.requires.posted.waits.command c.args.ask
-    (asked_at d p c.args.channel c.requires.posted c.args.ask c.requires.asks) c.in_ok-parts.parts
+    (asked_at d c.requires.posted c.requires.asks) c.in_ok-parts.parts
     c.in_ok-parts.ensures c.args.channel c.job.new.pages.bits job on c.requires.order.resolves) c.job.ensures.job

@@ -1,6 +1,6 @@
 use Rattle.std.proofs.Common.{◌≡◌, ◌<◌, Bool, false, List, [], ◌∷◌, length, Option, Some, None}
-use Rattle.std.proofs.Common.{refl, sym, ap, subst, ◌∙◌, arith, drop, rules}
-use Rattle.std.specs.Prelude.{◌+◌, ◌^◌, ◌≤◌, is_some, slice_set, vec_capacity, IsSome}
+use Rattle.std.proofs.Common.{refl, sym, ap, subst, ◌∙◌, arith, drop}
+use Rattle.std.specs.Prelude.{is_some, slice_set, IsSome}
 use Rattle.std.specs.FinMap as map
 use Rattle.std.specs.Option.{option_map}
 use Rattle.blob_meta.specs.declared.meta.Meta.{Meta}
@@ -13,15 +13,15 @@ use Rattle.store_model.specs.Rows.{Answered, Decided, InJob, Row}
 use Rattle.job_begins.specs.Begins.{no_effects, planned_with, IsPrepared, IsUnprepared}
 use Rattle.running_store.specs.Jobs.{job_seen, writing_for, IsHeaded}
 use Rattle.running_store.specs.Blobs.{blobs_of, CanAllBeKept, WillBeKept}
-use Rattle.running_store.specs.Running.{left_in, view_of}
+use Rattle.running_store.specs.Running.{view_of}
 use Rattle.store_model.specs.StoreState.{JobState, marked}
 use Rattle.running_store.specs.declared.job.Serves.TheVariants as whom
 use Rattle.running_store.specs.Stages.{claim_seen}
 use Rattle.running_store.specs.StoreView.{state_of}
 use Rattle.running_store.specs.GivingBack.{IsGivenUp}
-use Rattle.running_store.proofs.Counting.{left_same}
 use Rattle.running_store.proofs.JobLeft.{seen_with_mark}
 use Rattle.running_store.proofs.KeptAlone.{kept_unmarked}
+use Rattle.running_store.proofs.OrderKept.{job_on, order_kept, room_with}
 use Rattle.running_store.proofs.Resolved.{unmarked_base}
 use Rattle.running_store.proofs.WorkLogged.{has_work}
 use Rattle.job_begins.proofs.PlacesThere.{places_there}
@@ -108,28 +108,11 @@ returns-in-Ok-clause-order g c =
       tt,
     )) in
     let low : c.args.row < length p.rows = omega (arith, c.requires.row, c.requires.order.seventeen) in
-    let same : left_in (slice_set p.rows c.args.row c.serve.new.self) ≡ left_in p.rows =
-    left_same p.rows c.args.row c.serve.new.self c.index_mut.result.now low
-    (ap (λ (r : Row). length r.left) (sym c.index_mut.ensures.value)
-    ∙ sym (ap (λ (r : Row). length r.left) c.serve.ensures)) in
-    record {
-      inside = c.requires.order.inside;
-      device = c.requires.order.device;
-      seventeen = search (rules);
-      entries = subst (λ n. length c.args.running.now.entries.items + n ≤ vec_capacity c.args.running.now.entries)
-          (sym same) c.requires.order.entries;
-      marks = subst (λ n. length c.args.running.now.marks.items + n ≤ vec_capacity c.args.running.now.marks)
-          (sym same) c.requires.order.marks;
-      few = subst (λ n. length c.args.running.now.entries.items + n < 2 ^ 31) (sym same) c.requires.order.few;
-      counts = c.requires.order.counts;
-      counted = c.requires.order.counted;
-      no_page = c.prepare.ensures.unclaimed;
-      no_cluster = c.requires.order.no_cluster;
-      headed = subst IsHeaded (sym c.with_mark.ensures) c.alone-job.ensures.headed;
-      heads = c.requires.order.heads;
-      resolves = c.requires.order.resolves;
-      kept = kept;
-    }
+    let order = c.requires.order in
+    order_kept g.D.PageDisk now order refl refl (room_with g.D.PageDisk now order c.args.row c.serve.new.self
+    c.index_mut.result.now low (ap (λ (r : Row). length r.left) (sym c.index_mut.ensures.value)
+    ∙ sym (ap (λ (r : Row). length r.left) c.serve.ensures))) c.prepare.ensures.unclaimed order.no_cluster
+    (job_on g.D.PageDisk now order (subst IsHeaded (sym c.with_mark.ensures) c.alone-job.ensures.headed) kept)
 
 pub returns-in-Err-clause-case : goal.returns-in-Err-clause-case
 returns-in-Err-clause-case g c =

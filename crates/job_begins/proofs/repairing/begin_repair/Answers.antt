@@ -1,4 +1,4 @@
-use Rattle.std.proofs.Common.{ap, Some, sym, subst}
+use Rattle.std.proofs.Common.{ap, Some, refl, sym, subst}
 use Rattle.store_model.specs.Cases.BeginRepair.{BeginsRepair}
 use Rattle.store_model.specs.StoreState.{JobState}
 use Rattle.running_store.specs.Blobs.{blobs_of, WillBeKept}
@@ -7,6 +7,7 @@ use Rattle.running_store.specs.Running.{view_of}
 use Rattle.running_store.specs.StoreView.{state_of}
 use Rattle.running_store.specs.declared.job.RunningJob.{RunningJob}
 use Rattle.running_store.proofs.JobLeft.{seen_with_mark}
+use Rattle.running_store.proofs.OrderKept.{job_on, order_kept, room_still}
 use Rattle.job_begins.proofs.RepairBegins.{lack_or_not}
 use Rattle.job_begins.proofs.repairing.begin_repair.Goals as goal
 
@@ -25,22 +26,10 @@ returns-in-Ok-clause-case g c =
 pub returns-in-Ok-clause-order : goal.returns-in-Ok-clause-order
 returns-in-Ok-clause-order g c =
     let order = c.repair_of.ensures.order in
-    record {
-      inside = order.inside;
-      device = order.device;
-      seventeen = order.seventeen;
-      entries = order.entries;
-      marks = order.marks;
-      few = order.few;
-      counts = order.counts;
-      counted = order.counted;
-      no_page = order.no_page;
-      no_cluster = order.no_cluster;
-      headed = subst IsHeaded (sym c.with_mark.ensures) c.in-Ok.ensures.headed;
-      heads = order.heads;
-      resolves = order.resolves;
-      kept = subst (WillBeKept (blobs_of c.repair_of.new.running)) (sym c.with_mark.ensures) c.in-Ok.ensures.kept;
-    }
+    let now = c.repair_of.new.running in
+    order_kept g.D.PageDisk now order refl refl (room_still g.D.PageDisk now order) order.no_page order.no_cluster
+    (job_on g.D.PageDisk now order (subst IsHeaded (sym c.with_mark.ensures) c.in-Ok.ensures.headed)
+    (subst (WillBeKept (blobs_of now)) (sym c.with_mark.ensures) c.in-Ok.ensures.kept))
 
 pub returns-in-Err-clause-case : goal.returns-in-Err-clause-case
 returns-in-Err-clause-case g c =

@@ -7,38 +7,37 @@ use Rattle.running_store.specs.Blobs.{blobs_of, CanAllBeKept}
 use Rattle.running_store.specs.Running.{view_of}
 use Rattle.store_model.specs.StoreState.{JobState, marked}
 use Rattle.running_store.specs.StoreView.{state_of}
-use Rattle.job_begins.proofs.JobPlanned.{all_fit}
-use Rattle.job_begins.proofs.RepairBegins.{given, has_chain, mends, mends_to, stored_new}
+use Rattle.job_begins.proofs.RepairBegins.{fits_new, given, has_chain, mends, mends_to}
 use Rattle.job_begins.proofs.repairing.mend.Goals as goal
 
 pub items_of-requires-clause-xattrs : goal.items_of-requires-clause-xattrs
-items_of-requires-clause-xattrs g c = all_fit c.args.new.xattrs
-    ((stored_new g.D.PageDisk (view_of c.args.running.now) c.requires.running c.requires.runs
+items_of-requires-clause-xattrs g c =
+    (fits_new g.D.PageDisk (view_of c.args.running.now) c.requires.running c.requires.runs
     (ap (λ o. option_map job_seen o) c.requires.no_job) c.args.head c.requires.due c.requires.order.resolves
-    c.args.new c.requires.kept).xattrs)
+    c.requires.kept).0
 
 pub items_of-requires-clause-internal : goal.items_of-requires-clause-internal
-items_of-requires-clause-internal g c = all_fit c.args.new.internal
-    ((stored_new g.D.PageDisk (view_of c.args.running.now) c.requires.running c.requires.runs
+items_of-requires-clause-internal g c =
+    (fits_new g.D.PageDisk (view_of c.args.running.now) c.requires.running c.requires.runs
     (ap (λ o. option_map job_seen o) c.requires.no_job) c.args.head c.requires.due c.requires.order.resolves
-    c.args.new c.requires.kept).internal)
+    c.requires.kept).1
 
 pub prepare-requires-clause-there : goal.prepare-requires-clause-there
 prepare-requires-clause-there g c = λ _. has_chain g.D.PageDisk (view_of c.args.running.now) c.requires.running
     c.requires.runs (ap (λ o. option_map job_seen o) c.requires.no_job) c.args.head c.requires.due
-    c.requires.order.resolves c.args.new c.requires.kept
+    c.requires.order.resolves c.requires.kept
 
 pub prepare-requires-clause-xattrs : goal.prepare-requires-clause-xattrs
-prepare-requires-clause-xattrs g c = all_fit c.args.new.xattrs
-    ((stored_new g.D.PageDisk (view_of c.args.running.now) c.requires.running c.requires.runs
+prepare-requires-clause-xattrs g c =
+    (fits_new g.D.PageDisk (view_of c.args.running.now) c.requires.running c.requires.runs
     (ap (λ o. option_map job_seen o) c.requires.no_job) c.args.head c.requires.due c.requires.order.resolves
-    c.args.new c.requires.kept).xattrs)
+    c.requires.kept).0
 
 pub prepare-requires-clause-internal : goal.prepare-requires-clause-internal
-prepare-requires-clause-internal g c = all_fit c.args.new.internal
-    ((stored_new g.D.PageDisk (view_of c.args.running.now) c.requires.running c.requires.runs
+prepare-requires-clause-internal g c =
+    (fits_new g.D.PageDisk (view_of c.args.running.now) c.requires.running c.requires.runs
     (ap (λ o. option_map job_seen o) c.requires.no_job) c.args.head c.requires.due c.requires.order.resolves
-    c.args.new c.requires.kept).internal)
+    c.requires.kept).1
 
 pub returns-then-has-wants-clause-lack : goal.returns-then-has-wants-clause-lack
 returns-then-has-wants-clause-lack g c =
@@ -49,7 +48,7 @@ returns-then-has-wants-clause-lack g c =
       new = c.args.new;
       given = given g.D.PageDisk (view_of c.args.running.now) c.requires.running c.requires.runs
           (ap (λ o. option_map job_seen o) c.requires.no_job) c.args.head c.requires.due c.requires.order.resolves
-          c.args.new c.requires.kept;
+          c.requires.kept;
       needs = record {
         items = c.in_ok-items.items;
         are = c.in_ok-items.ensures.are;
@@ -67,7 +66,7 @@ returns-in-Ok-clause-begins g c =
     (state_of d (record p { pages = c.prepare.new.pages.bits; job = Some (marked p.clean j) })))
     (sym c.alone.ensures.seen)
     (mends d p c.requires.running c.requires.runs (ap (λ o. option_map job_seen o) c.requires.no_job) c.args.head
-    c.requires.due c.requires.order.resolves c.args.new c.requires.kept c.prepare.new.pages.bits c.in-Ok.prepared
+    c.requires.due c.requires.order.resolves c.requires.kept c.prepare.new.pages.bits c.in-Ok.prepared
     c.in-Ok.ensures.prepared)
 
 pub alone-requires : goal.alone-requires
@@ -81,7 +80,7 @@ returns-in-Ok-clause-kept g c =
     let p = view_of now in
     subst (CanAllBeKept (blobs_of now)) (sym c.alone.ensures.coming) (
       mends_to g.D.PageDisk p c.requires.running c.requires.runs (ap (λ o. option_map job_seen o) c.requires.no_job)
-          c.args.head c.requires.due c.requires.order.resolves c.args.new c.requires.kept c.prepare.new.pages.bits
+          c.args.head c.requires.due c.requires.order.resolves c.requires.kept c.prepare.new.pages.bits
           c.in-Ok.prepared c.in-Ok.ensures.prepared,
       tt,
     )

@@ -13,7 +13,7 @@ use Rattle.running_store.specs.Running.{view_of}
 use Rattle.running_store.specs.Steps.{Asks}
 use Rattle.running_store.specs.StoreView.{rows_of, state_of}
 use Rattle.job_begins.specs.Begins.{IsFreshHead}
-use Rattle.job_begins.proofs.JobPlanned.{all_fit}
+use Rattle.job_begins.proofs.JobPlanned.{both_fit}
 use Rattle.job_begins.proofs.SnapshotBegins.{snapshot_begins_so, snapshot_headed, snapshot_kept_so}
 use Rattle.job_begins.proofs.SnapshotKnown.{known, next_head, numbered}
 use Rattle.job_begins.proofs.SnapshotLacks.{snapshot_memory, snapshot_short}
@@ -22,37 +22,28 @@ use Rattle.job_begins.proofs.snapshotting.snapshot_job.Goals as goal
 
 pub parts_of-requires-clause-chain : goal.parts_of-requires-clause-chain
 parts_of-requires-clause-chain g c =
-    (known g.D.PageDisk (view_of c.args.running.now) c.args.channel c.requires.posted c.requires.running
-    c.requires.unmarked c.requires.runs (ap (λ o. option_map job_seen o) c.requires.no_job) c.args.ask
-    c.requires.asks).chain
+    (known g.D.PageDisk c.requires.posted c.requires.running c.requires.unmarked c.requires.runs
+    (ap (λ o. option_map job_seen o) c.requires.no_job) c.requires.asks).chain
 
 pub parts_of-requires-clause-begun : goal.parts_of-requires-clause-begun
 parts_of-requires-clause-begun g c =
-    let k = known g.D.PageDisk (view_of c.args.running.now) c.args.channel c.requires.posted c.requires.running
-    c.requires.unmarked c.requires.runs (ap (λ o. option_map job_seen o) c.requires.no_job) c.args.ask
-    c.requires.asks in
-    (all_fit c.args.ask.begun.xattrs k.begun_can.0, all_fit c.args.ask.begun.internal k.begun_can.1)
+    both_fit c.args.ask.begun (known g.D.PageDisk c.requires.posted c.requires.running c.requires.unmarked
+    c.requires.runs (ap (λ o. option_map job_seen o) c.requires.no_job) c.requires.asks).begun_can
 
 pub parts_of-requires-clause-filled : goal.parts_of-requires-clause-filled
 parts_of-requires-clause-filled g c =
-    let k = known g.D.PageDisk (view_of c.args.running.now) c.args.channel c.requires.posted c.requires.running
-    c.requires.unmarked c.requires.runs (ap (λ o. option_map job_seen o) c.requires.no_job) c.args.ask
-    c.requires.asks in
-    (all_fit c.args.ask.filled.xattrs k.filled_can.0, all_fit c.args.ask.filled.internal k.filled_can.1)
+    both_fit c.args.ask.filled (known g.D.PageDisk c.requires.posted c.requires.running c.requires.unmarked
+    c.requires.runs (ap (λ o. option_map job_seen o) c.requires.no_job) c.requires.asks).filled_can
 
 pub parts_of-requires-clause-emptied : goal.parts_of-requires-clause-emptied
 parts_of-requires-clause-emptied g c =
-    let k = known g.D.PageDisk (view_of c.args.running.now) c.args.channel c.requires.posted c.requires.running
-    c.requires.unmarked c.requires.runs (ap (λ o. option_map job_seen o) c.requires.no_job) c.args.ask
-    c.requires.asks in
-    (all_fit c.args.ask.emptied.xattrs k.emptied_can.0, all_fit c.args.ask.emptied.internal k.emptied_can.1)
+    both_fit c.args.ask.emptied (known g.D.PageDisk c.requires.posted c.requires.running c.requires.unmarked
+    c.requires.runs (ap (λ o. option_map job_seen o) c.requires.no_job) c.requires.asks).emptied_can
 
 pub parts_of-requires-clause-made : goal.parts_of-requires-clause-made
 parts_of-requires-clause-made g c =
-    let k = known g.D.PageDisk (view_of c.args.running.now) c.args.channel c.requires.posted c.requires.running
-    c.requires.unmarked c.requires.runs (ap (λ o. option_map job_seen o) c.requires.no_job) c.args.ask
-    c.requires.asks in
-    (all_fit c.args.ask.made.xattrs k.made_can.0, all_fit c.args.ask.made.internal k.made_can.1)
+    both_fit c.args.ask.made (known g.D.PageDisk c.requires.posted c.requires.running c.requires.unmarked
+    c.requires.runs (ap (λ o. option_map job_seen o) c.requires.no_job) c.requires.asks).made_can
 
 pub returns-in_err-parts-clause-lack : goal.returns-in_err-parts-clause-lack
 returns-in_err-parts-clause-lack g c =
@@ -65,15 +56,13 @@ returns-in_err-parts-clause-lack g c =
 pub job-requires-clause-next : goal.job-requires-clause-next
 job-requires-clause-next g c =
     subst (IsFreshHead c.args.running.now.pages.bits) (sym c.in_ok-parts.ensures.drafts.begun.head_is)
-    (next_head g.D.PageDisk (view_of c.args.running.now) c.args.channel c.requires.posted c.requires.running
-    c.requires.unmarked c.requires.runs (ap (λ o. option_map job_seen o) c.requires.no_job) c.args.ask
-    c.requires.asks)
+    (next_head g.D.PageDisk c.requires.posted c.requires.running c.requires.unmarked c.requires.runs
+    (ap (λ o. option_map job_seen o) c.requires.no_job) c.requires.asks)
 
 pub freeze-requires : goal.freeze-requires
 freeze-requires g c =
-    numbered g.D.PageDisk (view_of c.args.running.now) c.args.channel c.requires.posted c.requires.running
-    c.requires.unmarked c.requires.runs (ap (λ o. option_map job_seen o) c.requires.no_job) c.args.ask
-    c.requires.asks
+    numbered g.D.PageDisk c.requires.posted c.requires.running c.requires.unmarked c.requires.runs
+    (ap (λ o. option_map job_seen o) c.requires.no_job) c.requires.asks
 
 pub returns-clause-begins : goal.returns-clause-begins
 returns-clause-begins g c =
@@ -86,24 +75,24 @@ returns-clause-begins g c =
       guards = y;
       pages = c.job.new.pages.bits;
     }))) (sym c.freeze.ensures)
-    (snapshot_begins_so d q c.args.channel c.requires.posted c.requires.running c.requires.unmarked c.requires.runs
-    (ap (λ o. option_map job_seen o) c.requires.no_job) c.args.ask c.requires.asks c.in_ok-parts.parts
+    (snapshot_begins_so d c.requires.posted c.requires.running c.requires.unmarked c.requires.runs
+    (ap (λ o. option_map job_seen o) c.requires.no_job) c.requires.asks c.in_ok-parts.parts
     c.in_ok-parts.ensures c.job.new.pages.bits c.in_ok-job.job c.in_ok-job.ensures.job c.requires.unfilled low)
 
 pub returns-clause-headed : goal.returns-clause-headed
 returns-clause-headed g c =
-    snapshot_headed g.D.PageDisk (view_of c.args.running.now) c.args.channel c.requires.posted c.requires.running
-    c.requires.unmarked c.requires.runs (ap (λ o. option_map job_seen o) c.requires.no_job) c.args.ask
-    c.requires.asks c.in_ok-parts.parts c.in_ok-parts.ensures c.job.new.pages.bits c.in_ok-job.job
+    snapshot_headed g.D.PageDisk c.requires.posted c.requires.running c.requires.unmarked c.requires.runs
+    (ap (λ o. option_map job_seen o) c.requires.no_job) c.requires.asks c.in_ok-parts.parts c.in_ok-parts.ensures
+    c.job.new.pages.bits c.in_ok-job.job
     c.in_ok-job.ensures.job
 
 pub returns-clause-kept : goal.returns-clause-kept
 returns-clause-kept g c =
     subst (λ (y : GuardsState). CanAllBeKept (record (blobs_of c.args.running.now) { guards = y })
     (to_come c.in_ok-job.job)) (sym c.freeze.ensures)
-    (snapshot_kept_so g.D.PageDisk (view_of c.args.running.now) c.args.channel c.requires.posted c.requires.running
-    c.requires.unmarked c.requires.runs (ap (λ o. option_map job_seen o) c.requires.no_job) c.args.ask
-    c.requires.asks c.in_ok-parts.parts c.in_ok-parts.ensures c.job.new.pages.bits c.in_ok-job.job
+    (snapshot_kept_so g.D.PageDisk c.requires.posted c.requires.running c.requires.unmarked c.requires.runs
+    (ap (λ o. option_map job_seen o) c.requires.no_job) c.requires.asks c.in_ok-parts.parts c.in_ok-parts.ensures
+    c.job.new.pages.bits c.in_ok-job.job
     c.in_ok-job.ensures.job c.requires.order.resolves)
 
 pub returns-in_err-job-clause-lack : goal.returns-in_err-job-clause-lack

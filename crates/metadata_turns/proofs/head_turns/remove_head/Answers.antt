@@ -1,4 +1,4 @@
-use Rattle.std.proofs.Common.{◌≤◌, ◌+◌, ℕ, sym, ◌∙◌, ap, refl, subst, arith}
+use Rattle.std.proofs.Common.{sym, ◌∙◌, ap, refl, subst, arith}
 use Rattle.std.specs.Prelude.{false, slice_set}
 use Rattle.store_model.specs.Maps.{Metas}
 use Rattle.running_store.specs.Blobs.{blobs_behind, blobs_of}
@@ -9,6 +9,7 @@ use Rattle.running_store.specs.StoreView.{base_of}
 use Rattle.running_store.specs.declared.replacements.Change.TheVariants as change
 use Rattle.running_store.specs.declared.running.Running.{Running}
 use Rattle.running_store.proofs.BaseBehind.{base_behind}
+use Rattle.running_store.proofs.OrderKept.{order_kept, room_still}
 use Rattle.running_store.proofs.PlainFacts.{on_err, on_ok, zeros}
 use Rattle.running_store.proofs.Without.{heads_gone}
 use Rattle.metadata_turns.specs.Telling.{job_gone_on}
@@ -93,7 +94,6 @@ pub tell-requires-clause-order : goal.tell-requires-clause-order
 tell-requires-clause-order g c =
     let old = c.args.running.now in
     let order = c.requires.order in
-    let pages = sym c.replace.ensures.pages in
     let e = c.args.erasure in
     let serves = c.args.beside.serves in
     let later = c.args.beside.later.items in
@@ -102,24 +102,15 @@ tell-requires-clause-order g c =
     let behind = blobs_behind (blobs_of old) (change.Erases e) in
     subst (InOrder g.D.PageDisk) (sym c.go_on.ensures)
     (subst (λ (r : Running g.row.D.Denot). InOrder g.D.PageDisk (job_gone_on r serves c.behind.result))
-    (sym c.forget.ensures) (record {
-      inside = subst (λ (n : ℕ). old.sup.md_start + old.sup.md_len ≤ n) pages order.inside;
-      device = subst (λ (n : ℕ). old.sup.device_pages ≤ n) pages order.device;
-      seventeen = order.seventeen;
-      entries = order.entries;
-      marks = order.marks;
-      few = order.few;
-      counts = order.counts;
-      counted = order.counted;
-      no_page = order.no_page;
-      no_cluster = refl;
+    (sym c.forget.ensures) (order_kept g.D.PageDisk old order c.replace.ensures.pages refl
+    (room_still g.D.PageDisk old order) order.no_page refl (record {
       headed = c.behind.ensures.headed;
       heads = subst (λ (m : Metas). AreHeadPlaces old.sup.md_len m (slice_set old.heads e.head false))
           (sym (base_behind (blobs_of old) (change.Erases e) c.requires.kept.0))
           (heads_gone old.sup.md_len (base_of old.metas old.marked) e.head old.heads below order.heads);
       resolves = c.requires.kept.0.resolved;
       kept = kept_left c.behind.result later c.behind.ensures.coming behind serves c.requires.kept.1;
-    }))
+    })))
 
 pub returns-clause-case : goal.returns-clause-case
 returns-clause-case g c =

@@ -1,4 +1,4 @@
-use Rattle.std.proofs.Common.{◌≡◌, ℕ, ◌+◌, ◌≤◌, [], List, length, get_or, drop, sym, ◌∙◌, ap, refl, subst, arith}
+use Rattle.std.proofs.Common.{◌≡◌, ℕ, [], List, length, get_or, drop, sym, ◌∙◌, ap, refl, subst, arith}
 use Rattle.std.specs.Prelude.{if◌then◌else◌, is_some, slice_set, true}
 use Rattle.page_disk.specs.declared.disk.PageDisk.{Ghosts}
 use Rattle.md_chain.specs.declared.plan.PlannedPage.{PlannedPage}
@@ -15,6 +15,7 @@ use Rattle.running_store.specs.declared.replacements.Planned.{Planned}
 use Rattle.running_store.specs.declared.running.Running.{Running}
 use Rattle.running_store.proofs.BaseBehind.{base_behind}
 use Rattle.running_store.proofs.Maps.{heads_adopted}
+use Rattle.running_store.proofs.OrderKept.{order_kept, room_still}
 use Rattle.running_store.proofs.PlainFacts.{got, on_err, on_ok}
 use Rattle.metadata_turns.specs.JobTurns.{IsAtWork}
 use Rattle.metadata_turns.specs.Telling.{job_gone_on}
@@ -114,17 +115,8 @@ tell-requires-clause-order g c =
     let behind = blobs_behind (blobs_of old) (change.Writes planned) in
     subst (InOrder g.D.PageDisk) (sym c.go_on.ensures)
     (subst (λ (r : Running g.row.D.Denot). InOrder g.D.PageDisk (job_gone_on r serves c.behind.result))
-    (sym c.adopt.ensures) (record {
-      inside = subst (λ (n : ℕ). old.sup.md_start + old.sup.md_len ≤ n) (sym c.replace.ensures.pages) order.inside;
-      device = subst (λ (n : ℕ). old.sup.device_pages ≤ n) (sym c.replace.ensures.pages) order.device;
-      seventeen = order.seventeen;
-      entries = order.entries;
-      marks = order.marks;
-      few = order.few;
-      counts = order.counts;
-      counted = order.counted;
-      no_page = order.no_page;
-      no_cluster = refl;
+    (sym c.adopt.ensures) (order_kept g.D.PageDisk old order c.replace.ensures.pages refl
+    (room_still g.D.PageDisk old order) order.no_page refl (record {
       headed = c.behind.ensures.headed;
       heads = subst (λ (m : Metas). AreHeadPlaces old.sup.md_len m
           (if is_some planned.effects.rooms.chain then slice_set old.heads planned.head true else old.heads))
@@ -133,7 +125,7 @@ tell-requires-clause-order g c =
           planned.head planned.new old.heads there below order.heads);
       resolves = c.requires.kept.0.resolved;
       kept = kept_left c.behind.result later c.behind.ensures.coming behind serves c.requires.kept.1;
-    }))
+    })))
 
 pub tell-requires-clause-row : goal.tell-requires-clause-row
 tell-requires-clause-row g c =

@@ -1,12 +1,12 @@
-use Rattle.std.proofs.Common.{◌≤◌, ◌+◌, false, Some, sym, ◌∙◌, subst}
+use Rattle.std.proofs.Common.{false, Some, sym, ap, ◌∙◌, subst}
 use Rattle.super_block.specs.declared.page.Super.{Super}
 use Rattle.running_store.specs.Blobs.{blobs_of, WillBeKept}
 use Rattle.running_store.specs.DeviceCalls.{mark_page}
 use Rattle.running_store.specs.Jobs.{freeze_of, job_seen, IsHeaded}
-use Rattle.running_store.specs.Running.{view_of, AreHeadPlaces}
-use Rattle.running_store.specs.StoreView.{base_of}
+use Rattle.running_store.specs.Running.{view_of}
 use Rattle.running_store.specs.declared.job.RunningJob.{RunningJob}
 use Rattle.metadata_turns.specs.JobTurns.{with_job, TurnsJob}
+use Rattle.running_store.proofs.OrderKept.{job_on, order_kept, regions, room_still}
 use Rattle.running_store.proofs.PlainFacts.{on_err, on_ok}
 use Rattle.metadata_turns.specs.Telling.{HasFailed}
 use Rattle.metadata_turns.proofs.JobFailed.{failed_marking, waiting_row}
@@ -59,23 +59,7 @@ pub returns-clause-order : goal.returns-clause-order
 returns-clause-order g c =
     let order = c.requires.order in
     let now = c.args.running.now in
-    let same = sym c.mark_in_use.ensures.pages in
-    let kept = sym c.mark_in_use.ensures.kept in
-    record {
-      inside = subst (λ (s : Super). s.md_start + s.md_len ≤ g.D.PageDisk.pages c.mark_in_use.new.disk) kept
-          (subst (λ n. now.sup.md_start + now.sup.md_len ≤ n) same order.inside);
-      device = subst (λ (s : Super). s.device_pages ≤ g.D.PageDisk.pages c.mark_in_use.new.disk) kept
-          (subst (λ n. now.sup.device_pages ≤ n) same order.device);
-      seventeen = order.seventeen;
-      entries = order.entries;
-      marks = order.marks;
-      few = order.few;
-      counts = order.counts;
-      counted = order.counted;
-      no_page = order.no_page;
-      no_cluster = order.no_cluster;
-      headed = subst IsHeaded (sym c.with_mark.ensures) c.requires.headed;
-      heads = subst (λ (s : Super). AreHeadPlaces s.md_len (base_of now.metas now.marked) now.heads) kept order.heads;
-      resolves = order.resolves;
-      kept = subst (WillBeKept (blobs_of now)) (sym c.with_mark.ensures) c.requires.kept;
-    }
+    order_kept g.D.PageDisk now order c.mark_in_use.ensures.pages (ap regions c.mark_in_use.ensures.kept)
+    (room_still g.D.PageDisk now order) order.no_page order.no_cluster
+    (job_on g.D.PageDisk now order (subst IsHeaded (sym c.with_mark.ensures) c.requires.headed)
+    (subst (WillBeKept (blobs_of now)) (sym c.with_mark.ensures) c.requires.kept))

@@ -1,10 +1,11 @@
-use Rattle.std.proofs.Common.{◌+◌, ◌≤◌, ℕ, sym, ◌∙◌, ap, subst, arith}
+use Rattle.std.proofs.Common.{refl, sym, ◌∙◌, ap, subst, arith}
 use Rattle.std.specs.Option.{option_map}
 use Rattle.io_freeze.specs.Guards.{GuardsState}
 use Rattle.running_store.specs.Blobs.{blobs_of}
 use Rattle.running_store.specs.Jobs.{erasing_for, job_seen, phases_in}
 use Rattle.running_store.specs.Running.{view_of, InOrder}
 use Rattle.running_store.specs.StoreView.{StoreView}
+use Rattle.running_store.proofs.OrderKept.{order_kept, room_still}
 use Rattle.running_store.proofs.PlainFacts.{on_err, on_ok, zeros}
 use Rattle.metadata_turns.specs.Telling.{IsWon}
 use Rattle.metadata_turns.proofs.Behind.{guards_seen}
@@ -73,21 +74,11 @@ pub win-requires-clause-order : goal.win-requires-clause-order
 win-requires-clause-order g c =
     let old = c.args.running.now in
     let order = c.requires.order in
-    let pages = sym c.write_last.ensures.pages in
-    subst (InOrder g.D.PageDisk) (sym c.go_on.ensures) (record {
-      inside = subst (λ (n : ℕ). old.sup.md_start + old.sup.md_len ≤ n) pages order.inside;
-      device = subst (λ (n : ℕ). old.sup.device_pages ≤ n) pages order.device;
-      seventeen = order.seventeen;
-      entries = order.entries;
-      marks = order.marks;
-      few = order.few;
-      counts = order.counts;
-      counted = order.counted;
-      no_page = c.clear_places.ensures.unclaimed;
-      no_cluster = order.no_cluster;
+    subst (InOrder g.D.PageDisk) (sym c.go_on.ensures) (order_kept g.D.PageDisk old order c.write_last.ensures.pages
+    refl (room_still g.D.PageDisk old order) c.clear_places.ensures.unclaimed order.no_cluster (record {
       headed = c.next.ensures.headed;
       heads = order.heads;
       resolves = order.resolves;
       kept = kept_left c.next.result c.args.beside.later.items c.next.ensures.coming (blobs_of old)
           c.args.beside.serves c.requires.kept;
-    })
+    }))

@@ -1,7 +1,8 @@
-use Rattle.std.proofs.Common.{◌≤◌, ◌+◌, ◌∙◌, sym, subst, arith}
+use Rattle.std.proofs.Common.{◌∙◌, refl, sym, subst, arith}
 use Rattle.running_store.specs.Blobs.{blobs_of, CanAllBeKept}
 use Rattle.running_store.specs.Jobs.{phases_in, zeroing_for}
 use Rattle.running_store.specs.Running.{view_of}
+use Rattle.running_store.proofs.OrderKept.{job_on, order_kept, room_still}
 use Rattle.running_store.proofs.PlainFacts.{on_err, on_ok, zeros}
 use Rattle.metadata_turns.proofs.JobFailed.{waiting_row}
 use Rattle.metadata_turns.proofs.ZeroTurned.{failed_zeroing, page_low, zeroed_one}
@@ -44,21 +45,6 @@ pub returns-clause-order : goal.returns-clause-order
 returns-clause-order g c =
     let order = c.requires.order in
     let now = c.args.running.now in
-    let same = sym c.write_one.ensures.pages in
-    let coming = sym c.behind_zeros.ensures.coming in
-    record {
-      inside = subst (λ n. now.sup.md_start + now.sup.md_len ≤ n) same order.inside;
-      device = subst (λ n. now.sup.device_pages ≤ n) same order.device;
-      seventeen = order.seventeen;
-      entries = order.entries;
-      marks = order.marks;
-      few = order.few;
-      counts = order.counts;
-      counted = order.counted;
-      no_page = order.no_page;
-      no_cluster = order.no_cluster;
-      headed = c.behind_zeros.ensures.headed;
-      heads = order.heads;
-      resolves = order.resolves;
-      kept = subst (CanAllBeKept (blobs_of now)) coming c.requires.kept;
-    }
+    order_kept g.D.PageDisk now order c.write_one.ensures.pages refl (room_still g.D.PageDisk now order) order.no_page
+    order.no_cluster (job_on g.D.PageDisk now order c.behind_zeros.ensures.headed
+    (subst (CanAllBeKept (blobs_of now)) (sym c.behind_zeros.ensures.coming) c.requires.kept))

@@ -1,5 +1,5 @@
 use Rattle.std.proofs.Common.{None, ◌≡◌, ◌+◌, ◌<◌, ℕ, List, [], length, length-append, slice_index_or, slice_set, sym}
-use Rattle.std.proofs.Common.{◌∙◌, ap, subst, arith}
+use Rattle.std.proofs.Common.{◌∙◌, ap, refl, subst, arith}
 use Rattle.std.proofs.lemmas.List.{get_or_default, length-set}
 use Rattle.volume_model.specs.declared.command.Command.{Command}
 use Rattle.volume_model.specs.declared.reply.Entry.{Entry}
@@ -8,6 +8,7 @@ use Rattle.running_store.specs.Stages.{stage_seen}
 use Rattle.running_store.specs.StoreView.{rows_of}
 use Rattle.running_store.specs.Steps.{OnlyRow}
 use Rattle.running_store.proofs.Counting.{few_of, left_less, counted_more}
+use Rattle.running_store.proofs.OrderKept.{job_on, order_kept}
 use Rattle.running_store.proofs.Rowing.{only_row, taken_row}
 use Rattle.running_store.proofs.logging.log_then.Goals as goal
 
@@ -35,9 +36,7 @@ returns-clause-order g c =
     let marked = ap (λ (l : List ℕ). length l) marks ∙ length-append old.marks.items _ in
     let room = c.push_reserved.ensures.capacity in
     let mark_room = c.push_reserved-2.ensures.capacity in
-    record {
-      inside = order.inside;
-      device = order.device;
+    order_kept g.D.PageDisk old order refl refl (record {
       seventeen = length-set old.rows.items c.args.channel c.take.new.self ∙ order.seventeen;
       entries = omega (arith, order.entries, less, longer, room);
       marks = omega (arith, order.marks, less, marked, mark_room);
@@ -51,13 +50,7 @@ returns-clause-order g c =
             reply = c.reply_of-reply.result;
           }) 16 (sym order.counts) c.requires.channel order.counted k lt);
       counts = length-set old.logged c.args.channel _ ∙ order.counts;
-      no_page = order.no_page;
-      no_cluster = order.no_cluster;
-      headed = order.headed;
-      heads = order.heads;
-      resolves = order.resolves;
-      kept = order.kept;
-    }
+    }) order.no_page order.no_cluster (job_on g.D.PageDisk old order order.headed order.kept)
 
 pub returns-clause-row : goal.returns-clause-row
 returns-clause-row g c =

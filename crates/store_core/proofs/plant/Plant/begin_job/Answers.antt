@@ -4,8 +4,8 @@ use Rattle.job_begins.specs.Begins.{IsJobOf}
 use Rattle.store_model.specs.Repairing.{IsRepaired}
 use Rattle.running_store.specs.StoreView.{WithOpening, state_of}
 use Rattle.running_store.specs.Steps.{Asks}
-use Rattle.running_store.specs.Requests.{IsPostedBy}
 use Rattle.store_core.proofs.Posting.{begun_or_not, posted_at, posted_low}
+use Rattle.store_core.proofs.Viewed.{posted_by}
 use Rattle.store_core.proofs.plant.Plant.begin_job.Goals as goal
 
 pub begin_or_halt-requires-clause-repaired : goal.begin_or_halt-requires-clause-repaired
@@ -17,7 +17,7 @@ pub begin_or_halt-requires-clause-posted : goal.begin_or_halt-requires-clause-po
 begin_or_halt-requires-clause-posted g c = posted_at g.D.PageDisk
     (with_opening c.self.inside.running c.self.inside.opening.value c.self.inside.right.value.name)
     c.args.msg c.self.invariant.0
-    (subst (λ (b : WithOpening g.row.D.Denot). IsPostedBy b.at.rows c.args.msg) (sym c.self.view_is) c.requires.posted)
+    (posted_by c.self.view_is c.requires.posted)
 
 pub invariant_of-self : goal.invariant_of-self
 invariant_of-self g c =
@@ -38,4 +38,4 @@ pub begin_or_halt-requires-clause-channel : goal.begin_or_halt-requires-clause-c
 begin_or_halt-requires-clause-channel g c = posted_low g.D.PageDisk
     (with_opening c.self.inside.running c.self.inside.opening.value c.self.inside.right.value.name) c.args.msg
     c.self.invariant.0 c.self.invariant.1.seventeen
-    (subst (λ (b : WithOpening g.row.D.Denot). IsPostedBy b.at.rows c.args.msg) (sym c.self.view_is) c.requires.posted)
+    (posted_by c.self.view_is c.requires.posted)

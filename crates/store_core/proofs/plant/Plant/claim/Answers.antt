@@ -1,31 +1,28 @@
-use Rattle.std.proofs.Common.{◌≡◌, ◌∙◌, ap, subst, sym}
+use Rattle.std.proofs.Common.{◌≡◌, ◌∙◌, ap, subst}
 use Rattle.store_model.specs.Cases as kind
 use Rattle.channel_turns.specs.ChannelTurns.{IsFrozenFor}
 use Rattle.running_store.specs.Running.{view_of, with_opening}
-use Rattle.running_store.specs.StoreView.{WithOpening, rows_of, state_of}
-use Rattle.running_store.specs.Stages.{is_stage}
+use Rattle.running_store.specs.StoreView.{WithOpening, state_of}
 use Rattle.running_store.specs.Steps.{Asks}
 use Rattle.running_store.specs.TurnMade.{TurnMade}
 use Rattle.channel_turns.specs.declared.claiming.ClaimTurn.TheVariants as claim
-use Rattle.running_store.specs.declared.rows.RowStage.TheVariants.{Claim}
 use Rattle.store_core.proofs.FirstCommand.{low_claim, waits_claim}
 use Rattle.store_core.proofs.JobStays.{by_claim, LeavesJob, over_channel}
 use Rattle.store_core.proofs.Posting.{turned_or_not}
+use Rattle.store_core.proofs.Viewed.{stage_by}
 use Rattle.store_core.proofs.plant.Plant.claim.Goals as goal
 
 pub claim_or_halt-requires-clause-channel : goal.claim_or_halt-requires-clause-channel
 claim_or_halt-requires-clause-channel g c =
     let p = with_opening c.self.inside.running c.self.inside.opening.value c.self.inside.right.value.name in
     low_claim g.D.PageDisk p c.self.invariant.0 c.args.channel c.self.invariant.1.seventeen
-    (subst (λ (b : WithOpening g.row.D.Denot). is_stage (rows_of b.at.rows c.args.channel) c.args.channel ≡ Claim)
-    (sym c.self.view_is) c.requires.stage)
+    (stage_by c.self.view_is c.args.channel c.requires.stage)
 
 pub claim_or_halt-requires-clause-waits : goal.claim_or_halt-requires-clause-waits
 claim_or_halt-requires-clause-waits g c =
     let p = with_opening c.self.inside.running c.self.inside.opening.value c.self.inside.right.value.name in
     waits_claim g.D.PageDisk p c.self.invariant.0 c.args.channel
-    (subst (λ (b : WithOpening g.row.D.Denot). is_stage (rows_of b.at.rows c.args.channel) c.args.channel ≡ Claim)
-    (sym c.self.view_is) c.requires.stage)
+    (stage_by c.self.view_is c.args.channel c.requires.stage)
 
 pub invariant_of-self : goal.invariant_of-self
 invariant_of-self g c =

@@ -4,35 +4,32 @@ use Rattle.store_model.specs.Filling.{AsksForFill}
 use Rattle.store_model.specs.Rows.{fill_row}
 use Rattle.channel_turns.specs.FillTurns.{IsNextToFill}
 use Rattle.channel_turns.specs.declared.claiming.ClaimTurn.TheVariants.{Logged}
-use Rattle.running_store.specs.Requests.{IsPostedBy}
 use Rattle.running_store.specs.Running.{view_of, with_opening}
-use Rattle.running_store.specs.Stages.{is_stage}
 use Rattle.running_store.specs.Steps.{Asks}
-use Rattle.running_store.specs.StoreView.{rows_of, state_of, WithOpening}
+use Rattle.running_store.specs.StoreView.{state_of, WithOpening}
 use Rattle.running_store.specs.TurnMade.{TurnMade}
-use Rattle.running_store.specs.declared.rows.RowStage.TheVariants.{Over}
 use Rattle.store_core.proofs.FillKept.{fill_kept}
 use Rattle.store_core.proofs.JobStays.{by_fill, LeavesJob, over_channel}
 use Rattle.store_core.proofs.Posting.{kept_running, over_row, posted_at, posted_low, turned_or_not}
+use Rattle.store_core.proofs.Viewed.{posted_by, stage_by}
 use Rattle.store_core.proofs.plant.Plant.claim_fill.Goals as goal
 
 pub claim_fill_or_halt-requires-clause-channel : goal.claim_fill_or_halt-requires-clause-channel
 claim_fill_or_halt-requires-clause-channel g c = posted_low g.D.PageDisk
     (with_opening c.self.inside.running c.self.inside.opening.value c.self.inside.right.value.name) c.args.msg
     c.self.invariant.0 c.self.invariant.1.seventeen
-    (subst (λ (b : WithOpening g.row.D.Denot). IsPostedBy b.at.rows c.args.msg) (sym c.self.view_is) c.requires.posted)
+    (posted_by c.self.view_is c.requires.posted)
 
 pub claim_fill_or_halt-requires-clause-posted : goal.claim_fill_or_halt-requires-clause-posted
 claim_fill_or_halt-requires-clause-posted g c = posted_at g.D.PageDisk
     (with_opening c.self.inside.running c.self.inside.opening.value c.self.inside.right.value.name)
     c.args.msg c.self.invariant.0
-    (subst (λ (b : WithOpening g.row.D.Denot). IsPostedBy b.at.rows c.args.msg) (sym c.self.view_is) c.requires.posted)
+    (posted_by c.self.view_is c.requires.posted)
 
 pub claim_fill_or_halt-requires-clause-unused : goal.claim_fill_or_halt-requires-clause-unused
 claim_fill_or_halt-requires-clause-unused g c =
     over_row g.D.PageDisk (view_of c.self.inside.running) c.self.invariant.0.facts.shaped fill_row
-    (subst (λ (b : WithOpening g.row.D.Denot). is_stage (rows_of b.at.rows fill_row) fill_row ≡ Over)
-    (sym c.self.view_is) c.requires.over)
+    (stage_by c.self.view_is fill_row c.requires.over)
 
 pub claim_fill_or_halt-requires-clause-fills : goal.claim_fill_or_halt-requires-clause-fills
 claim_fill_or_halt-requires-clause-fills g c =

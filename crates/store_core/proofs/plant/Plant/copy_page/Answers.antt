@@ -1,15 +1,14 @@
-use Rattle.std.proofs.Common.{◌≡◌, ℕ, ◌∙◌, ap, subst, sym}
+use Rattle.std.proofs.Common.{◌≡◌, ℕ, ◌∙◌, ap, subst}
 use Rattle.store_model.specs.Cases as kind
 use Rattle.running_store.specs.TurnMade.{TurnMade}
 use Rattle.channel_turns.specs.declared.copying.CopyTurn.TheVariants as copy
 use Rattle.running_store.specs.Running.{view_of, with_opening}
-use Rattle.running_store.specs.StoreView.{WithOpening, rows_of}
-use Rattle.running_store.specs.Stages.{is_stage}
-use Rattle.running_store.specs.declared.rows.RowStage.TheVariants.{Copy}
+use Rattle.running_store.specs.StoreView.{WithOpening}
 use Rattle.store_core.proofs.FillKept.{fill_kept}
 use Rattle.store_core.proofs.FirstCommand.{low_copy, waits_copy}
 use Rattle.store_core.proofs.JobStays.{by_copy, LeavesJob, over_channel}
 use Rattle.store_core.proofs.Posting.{turned_or_not}
+use Rattle.store_core.proofs.Viewed.{stage_by}
 use Rattle.store_core.proofs.plant.Plant.copy_page.Goals as goal
 
 pub copy_or_halt-requires-clause-row : goal.copy_or_halt-requires-clause-row
@@ -17,16 +16,14 @@ copy_or_halt-requires-clause-row g c =
     let p = with_opening c.self.inside.running c.self.inside.opening.value c.self.inside.right.value.name in
     let left = c.requires.stage.0 in
     low_copy g.D.PageDisk p c.self.invariant.0 c.args.channel left c.self.invariant.1.seventeen
-    (subst (λ (b : WithOpening g.row.D.Denot). is_stage (rows_of b.at.rows c.args.channel) c.args.channel ≡ Copy left)
-    (sym c.self.view_is) c.requires.stage.1)
+    (stage_by c.self.view_is c.args.channel c.requires.stage.1)
 
 pub copy_or_halt-requires-clause-waits : goal.copy_or_halt-requires-clause-waits
 copy_or_halt-requires-clause-waits g c =
     let p = with_opening c.self.inside.running c.self.inside.opening.value c.self.inside.right.value.name in
     let left = c.requires.stage.0 in
     waits_copy g.D.PageDisk p c.self.invariant.0 c.args.channel left
-    (subst (λ (b : WithOpening g.row.D.Denot). is_stage (rows_of b.at.rows c.args.channel) c.args.channel ≡ Copy left)
-    (sym c.self.view_is) c.requires.stage.1)
+    (stage_by c.self.view_is c.args.channel c.requires.stage.1)
 
 pub invariant_of-self : goal.invariant_of-self
 invariant_of-self g c =

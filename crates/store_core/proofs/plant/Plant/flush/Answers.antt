@@ -1,11 +1,10 @@
-use Rattle.std.proofs.Common.{◌≡◌, ◌∙◌, ap, subst, sym}
+use Rattle.std.proofs.Common.{◌∙◌, ap}
 use Rattle.running_store.specs.Running.{view_of, with_opening}
-use Rattle.running_store.specs.StoreView.{WithOpening, rows_of}
-use Rattle.running_store.specs.Stages.{is_stage}
-use Rattle.running_store.specs.declared.rows.RowStage.TheVariants.{Flush}
+use Rattle.running_store.specs.StoreView.{WithOpening}
 use Rattle.store_core.proofs.JobStays.{over_flush}
 use Rattle.store_core.proofs.FillKept.{fill_left}
 use Rattle.store_core.proofs.FirstCommand.{low_flush, waits_flush}
+use Rattle.store_core.proofs.Viewed.{stage_by}
 use Rattle.store_core.proofs.plant.Plant.flush.Goals as goal
 
 pub flush_or_halt-requires-clause-channel : goal.flush_or_halt-requires-clause-channel
@@ -15,14 +14,12 @@ flush_or_halt-requires-clause-channel g c =
     (fill_left g.D.PageDisk
     (with_opening c.self.inside.running c.self.inside.opening.value c.self.inside.right.value.name)
     c.self.invariant.0)
-    (subst (λ (b : WithOpening g.row.D.Denot). is_stage (rows_of b.at.rows c.args.channel) c.args.channel ≡ Flush)
-    (sym c.self.view_is) c.requires.stage)
+    (stage_by c.self.view_is c.args.channel c.requires.stage)
 
 pub flush_or_halt-requires-clause-waits : goal.flush_or_halt-requires-clause-waits
 flush_or_halt-requires-clause-waits g c =
     waits_flush g.D.PageDisk (view_of c.self.inside.running) c.self.invariant.0.facts.shaped c.args.channel
-    (subst (λ (b : WithOpening g.row.D.Denot). is_stage (rows_of b.at.rows c.args.channel) c.args.channel ≡ Flush)
-    (sym c.self.view_is) c.requires.stage)
+    (stage_by c.self.view_is c.args.channel c.requires.stage)
 
 pub invariant_of-self : goal.invariant_of-self
 invariant_of-self g c = (

@@ -1,11 +1,8 @@
-use Rattle.std.proofs.Common.{◌≡◌, subst, sym}
 use Rattle.store_model.specs.Cases as kind
 use Rattle.running_store.specs.Running.{view_of, with_opening}
-use Rattle.running_store.specs.StoreView.{WithOpening, rows_of}
-use Rattle.running_store.specs.Stages.{is_stage}
-use Rattle.running_store.specs.declared.rows.RowStage.TheVariants.{Meta}
 use Rattle.store_core.proofs.FillKept.{fill_left}
 use Rattle.store_core.proofs.Posting.{low_meta, waits_meta}
+use Rattle.store_core.proofs.Viewed.{stage_by}
 use Rattle.store_core.proofs.plant.Plant.post.Goals as goal
 
 pub post-requires-clause-channel : goal.post-requires-clause-channel
@@ -14,14 +11,12 @@ post-requires-clause-channel g c = low_meta g.D.PageDisk
     (fill_left g.D.PageDisk
     (with_opening c.self.inside.running c.self.inside.opening.value c.self.inside.right.value.name)
     c.self.invariant.0)
-    (subst (λ (b : WithOpening g.row.D.Denot). is_stage (rows_of b.at.rows c.args.channel) c.args.channel ≡ Meta)
-    (sym c.self.view_is) c.requires.stage)
+    (stage_by c.self.view_is c.args.channel c.requires.stage)
 
 pub post-requires-clause-waits : goal.post-requires-clause-waits
 post-requires-clause-waits g c =
     waits_meta g.D.PageDisk (view_of c.self.inside.running) c.self.invariant.0.facts.shaped c.args.channel
-    (subst (λ (b : WithOpening g.row.D.Denot). is_stage (rows_of b.at.rows c.args.channel) c.args.channel ≡ Meta)
-    (sym c.self.view_is) c.requires.stage)
+    (stage_by c.self.view_is c.args.channel c.requires.stage)
 
 pub invariant_of-self : goal.invariant_of-self
 invariant_of-self g c = (

@@ -1,15 +1,14 @@
-use Rattle.std.proofs.Common.{◌≡◌, ◌∙◌, ap, subst, sym}
+use Rattle.std.proofs.Common.{◌≡◌, ◌∙◌, ap, subst}
 use Rattle.channel_turns.specs.ChannelTurns.{IsFrozenFor, IsOfRead}
 use Rattle.running_store.specs.Running.{view_of, with_opening}
-use Rattle.running_store.specs.StoreView.{WithOpening, rows_of, state_of}
-use Rattle.running_store.specs.Stages.{is_stage}
+use Rattle.running_store.specs.StoreView.{WithOpening, state_of}
 use Rattle.running_store.specs.Steps.{Asks}
 use Rattle.channel_turns.specs.declared.page_reading.ReadTurn.TheVariants as read
-use Rattle.running_store.specs.declared.rows.RowStage.TheVariants.{Read}
 use Rattle.store_core.proofs.FillKept.{fill_left}
 use Rattle.store_core.proofs.FirstCommand.{low_read, waits_read}
 use Rattle.store_core.proofs.JobStays.{over_read}
 use Rattle.store_core.proofs.Posting.{by_read, turned_or_not}
+use Rattle.store_core.proofs.Viewed.{stage_by}
 use Rattle.store_core.proofs.plant.Plant.read_page.Goals as goal
 
 pub read_or_halt-requires-clause-channel : goal.read_or_halt-requires-clause-channel
@@ -19,14 +18,12 @@ read_or_halt-requires-clause-channel g c =
     (fill_left g.D.PageDisk
     (with_opening c.self.inside.running c.self.inside.opening.value c.self.inside.right.value.name)
     c.self.invariant.0)
-    (subst (λ (b : WithOpening g.row.D.Denot). is_stage (rows_of b.at.rows c.args.channel) c.args.channel ≡ Read)
-    (sym c.self.view_is) c.requires.stage)
+    (stage_by c.self.view_is c.args.channel c.requires.stage)
 
 pub read_or_halt-requires-clause-waits : goal.read_or_halt-requires-clause-waits
 read_or_halt-requires-clause-waits g c =
     waits_read g.D.PageDisk (view_of c.self.inside.running) c.self.invariant.0.facts.shaped c.args.channel
-    (subst (λ (b : WithOpening g.row.D.Denot). is_stage (rows_of b.at.rows c.args.channel) c.args.channel ≡ Read)
-    (sym c.self.view_is) c.requires.stage)
+    (stage_by c.self.view_is c.args.channel c.requires.stage)
 
 pub invariant_of-self : goal.invariant_of-self
 invariant_of-self g c =

@@ -1,17 +1,17 @@
-use Rattle.std.proofs.Common.{◌≡◌, None, subst, sym}
+use Rattle.std.proofs.Common.{◌≡◌, None, subst}
 use Rattle.store_model.specs.Cases as kind
 use Rattle.running_store.specs.Running.{view_of, with_opening}
 use Rattle.running_store.specs.StoreView.{WithOpening}
 use Rattle.running_store.specs.TurnMade.{TurnMade}
-use Rattle.running_store.specs.Requests.{IsPostedBy}
 use Rattle.store_core.proofs.Posting.{either, posted_at, posted_low}
+use Rattle.store_core.proofs.Viewed.{posted_by}
 use Rattle.store_core.proofs.plant.Plant.refuse.Goals as goal
 
 pub refuse_or_halt-requires-clause-posted : goal.refuse_or_halt-requires-clause-posted
 refuse_or_halt-requires-clause-posted g c = posted_at g.D.PageDisk
     (with_opening c.self.inside.running c.self.inside.opening.value c.self.inside.right.value.name)
     c.args.msg c.self.invariant.0
-    (subst (λ (b : WithOpening g.row.D.Denot). IsPostedBy b.at.rows c.args.msg) (sym c.self.view_is) c.requires.posted)
+    (posted_by c.self.view_is c.requires.posted)
 
 pub invariant_of-self : goal.invariant_of-self
 invariant_of-self g c =
@@ -26,7 +26,7 @@ pub refuse_or_halt-requires-clause-channel : goal.refuse_or_halt-requires-clause
 refuse_or_halt-requires-clause-channel g c = posted_low g.D.PageDisk
     (with_opening c.self.inside.running c.self.inside.opening.value c.self.inside.right.value.name) c.args.msg
     c.self.invariant.0 c.self.invariant.1.seventeen
-    (subst (λ (b : WithOpening g.row.D.Denot). IsPostedBy b.at.rows c.args.msg) (sym c.self.view_is) c.requires.posted)
+    (posted_by c.self.view_is c.requires.posted)
 
 pub returns-clause-refused : goal.returns-clause-refused
 returns-clause-refused g c = subst (λ (b : WithOpening g.row.D.Denot). b.at.stopped ≡ None

@@ -1,27 +1,24 @@
-use Rattle.std.proofs.Common.{◌≡◌, ◌∙◌, ap, subst, sym}
+use Rattle.std.proofs.Common.{◌∙◌, ap}
 use Rattle.running_store.specs.Running.{view_of, with_opening}
-use Rattle.running_store.specs.StoreView.{WithOpening, rows_of}
-use Rattle.running_store.specs.Stages.{is_stage}
-use Rattle.running_store.specs.declared.rows.RowStage.TheVariants.{Ready}
+use Rattle.running_store.specs.StoreView.{WithOpening}
 use Rattle.store_core.proofs.FillKept.{fill_kept}
 use Rattle.store_core.proofs.FirstCommand.{holds_ready, low_ready}
 use Rattle.store_core.proofs.JobStays.{by_send, LeavesJob, over_channel}
 use Rattle.store_core.proofs.Posting.{turned_or_not}
+use Rattle.store_core.proofs.Viewed.{stage_by}
 use Rattle.store_core.proofs.plant.Plant.send_ready.Goals as goal
 
 pub send_or_halt-requires-clause-row : goal.send_or_halt-requires-clause-row
 send_or_halt-requires-clause-row g c =
     let p = with_opening c.self.inside.running c.self.inside.opening.value c.self.inside.right.value.name in
     low_ready g.D.PageDisk p c.self.invariant.0 c.args.channel c.self.invariant.1.seventeen
-    (subst (λ (b : WithOpening g.row.D.Denot). is_stage (rows_of b.at.rows c.args.channel) c.args.channel ≡ Ready)
-    (sym c.self.view_is) c.requires.stage)
+    (stage_by c.self.view_is c.args.channel c.requires.stage)
 
 pub send_or_halt-requires-clause-holds : goal.send_or_halt-requires-clause-holds
 send_or_halt-requires-clause-holds g c =
     let p = with_opening c.self.inside.running c.self.inside.opening.value c.self.inside.right.value.name in
     holds_ready g.D.PageDisk p c.self.invariant.0 c.args.channel
-    (subst (λ (b : WithOpening g.row.D.Denot). is_stage (rows_of b.at.rows c.args.channel) c.args.channel ≡ Ready)
-    (sym c.self.view_is) c.requires.stage)
+    (stage_by c.self.view_is c.args.channel c.requires.stage)
 
 pub invariant_of-self : goal.invariant_of-self
 invariant_of-self g c =
