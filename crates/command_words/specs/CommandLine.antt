@@ -1,7 +1,7 @@
 -- The program's command line, as `clap` reads it: a command with one level of subcommands.
 use Rattle.std.specs.Prelude.{true, false, List, [], ◌∷◌, ◌++◌, Some, codes}
 use Rattle.clap.specs.Walk.{Rule, Text}
-use Rattle.clap.specs.Simple.{App, Shape, new_rule, new_shape}
+use Rattle.clap.specs.Simple.{App, Shape, new_rule, new_shape, with_rule}
 
 -- an argument that is known by its place, and has to be there
 abbrev pub placed_rule : Text → Rule
@@ -33,6 +33,10 @@ format_line = record sized_format_line {
 abbrev pub list_line : Shape
 list_line = subcommand (codes "list") (placed_rule (codes "IMAGE") ∷ [])
 
+-- and behind its own arguments the two numbers that say which script is drawn
+abbrev pub with_script : App → App
+with_script a = with_rule (with_rule a (placed_rule (codes "NUMBER"))) (placed_rule (codes "SIZE"))
+
 abbrev pub generate_line : Shape
 generate_line = subcommand (codes "generate") (placed_rule (codes "NUMBER") ∷ placed_rule (codes "SIZE") ∷ [])
 
@@ -54,8 +58,14 @@ without_commands = record {
   subs = [];
 }
 
-abbrev pub command_line : App
-command_line = record {
+-- with the subcommands on a store that is there or is to be
+abbrev pub with_stores : App
+with_stores = record {
   top = record without_commands.top { is_leaf = false };
-  subs = run_line ∷ format_line ∷ list_line ∷ generate_line ∷ exercise_line ∷ [];
+  subs = run_line ∷ format_line ∷ list_line ∷ [];
+}
+
+abbrev pub command_line : App
+command_line = record with_stores {
+  subs = with_stores.subs ++ (generate_line ∷ exercise_line ∷ []);
 }

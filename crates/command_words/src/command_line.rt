@@ -114,14 +114,12 @@ fn list_line<'a>(alloc: Global) -> Result<Command<'a>, AllocError>
         .arg(placed(alloc, "IMAGE", "The file that has the store"))
 }
 
-/// `generate NUMBER SIZE`.
-fn generate_line<'a>(alloc: Global) -> Result<Command<'a>, AllocError>
-    ensures shape { IfOk result (λ c. shape_of c ≡ said.generate_line) }
-    ensures local { IfOk result (λ c. (fields_of c).has_globals ≡ false) }
+/// The command, with the two numbers that say which script is drawn behind its own arguments.
+fn with_script<'a>(alloc: Global, command: Command<'a>) -> Result<Command<'a>, AllocError>
+    ensures shape { IfOk result (λ c. app_of c ≡ said.with_script (app_of command.entry)) }
+    ensures local { IfOk result (λ c. (fields_of c).has_globals ≡ (fields_of command.entry).has_globals) }
 {
-    Command::new(alloc, "generate")
-        .about("Prints a script to try a store with, always the same for the same two numbers")
-        .after_help("Example: blobtool generate 1 100 > script.txt")
+    command
         .arg(placed(alloc, "NUMBER", "Which script: 0 to 2147483647"))?
         .arg(placed(
             alloc,
@@ -130,21 +128,27 @@ fn generate_line<'a>(alloc: Global) -> Result<Command<'a>, AllocError>
         ))
 }
 
+/// `generate NUMBER SIZE`.
+fn generate_line<'a>(alloc: Global) -> Result<Command<'a>, AllocError>
+    ensures shape { IfOk result (λ c. shape_of c ≡ said.generate_line) }
+    ensures local { IfOk result (λ c. (fields_of c).has_globals ≡ false) }
+{
+    let command = Command::new(alloc, "generate")
+        .about("Prints a script to try a store with, always the same for the same two numbers")
+        .after_help("Example: blobtool generate 1 100 > script.txt");
+    with_script(alloc, command)
+}
+
 /// `exercise IMAGE NUMBER SIZE`.
 fn exercise_line<'a>(alloc: Global) -> Result<Command<'a>, AllocError>
     ensures shape { IfOk result (λ c. shape_of c ≡ said.exercise_line) }
     ensures local { IfOk result (λ c. (fields_of c).has_globals ≡ false) }
 {
-    Command::new(alloc, "exercise")
+    let command = Command::new(alloc, "exercise")
         .about("Runs a script of generate on a store, and prints one line that sums up its answers")
         .after_help("Example: blobtool exercise store.img 1 100")
-        .arg(placed(alloc, "IMAGE", "The file that has the store"))?
-        .arg(placed(alloc, "NUMBER", "Which script: 0 to 2147483647"))?
-        .arg(placed(
-            alloc,
-            "SIZE",
-            "Lines that are drawn, behind the four that make volumes: 0 to 65000",
-        ))
+        .arg(placed(alloc, "IMAGE", "The file that has the store"))?;
+    with_script(alloc, command)
 }
 
 /// The command without its subcommands.
@@ -166,14 +170,21 @@ fn without_commands<'a>(alloc: Global) -> Result<Command<'a>, AllocError>
         .bin_name("blobtool")
 }
 
-/// The program's command line, for the words behind the program's name.
-pub fn command_line<'a>(alloc: Global) -> Result<Command<'a>, AllocError>
-    ensures { IfOk result (λ c. app_of c ≡ said.command_line) }
+/// With the subcommands on a store that is there or is to be.
+fn with_stores<'a>(alloc: Global) -> Result<Command<'a>, AllocError>
+    ensures { IfOk result (λ c. app_of c ≡ said.with_stores) }
 {
     without_commands(alloc)?
         .subcommand(run_line(alloc)?)?
         .subcommand(format_line(alloc)?)?
-        .subcommand(list_line(alloc)?)?
+        .subcommand(list_line(alloc)?)
+}
+
+/// The program's command line, for the words behind the program's name.
+pub fn command_line<'a>(alloc: Global) -> Result<Command<'a>, AllocError>
+    ensures { IfOk result (λ c. app_of c ≡ said.command_line) }
+{
+    with_stores(alloc)?
         .subcommand(generate_line(alloc)?)?
         .subcommand(exercise_line(alloc)?)
 }

@@ -1,6 +1,6 @@
 //! What a job asks for, by the form of its list of replacements.
 
-ghost use Rattle.std.specs.Prelude.{◌≡◌, None, length};
+ghost use Rattle.std.specs.Prelude.{◌≡◌, ◌++◌, ◌∷◌, [], None, Some, length, IfSome};
 ghost use Rattle.blob_meta.specs.declared.job.Job.{Job as AJob};
 ghost use Rattle.job_begins.specs.Asks.{IsAskOf};
 
@@ -163,25 +163,47 @@ fn single(mut list: ReplacementList, zeros: SlotList) -> Ask
     }
 }
 
+/// What a replacement gives the blob at a head.
+#[derive(Drop)]
+struct Given {
+    head: u32,
+    new: Meta,
+}
+
+/// The last replacement, if it gives its blob metadata, and isn't the one that erases it.
+fn last_given(list: &mut ReplacementList) -> Option<Given>
+    ensures { IfSome result (λ last.
+        list.old ≡ list.new ++ (record { head = last.head; new = Some last.new }) ∷ []) }
+{
+    let last = list.pop()?;
+    let head = last.head;
+    let new = last.new?;
+    Some(Given { head, new })
+}
+
 /// Three ask for a delete: a blob is marked, another one is written, and the first is erased.
 fn deletion(mut list: ReplacementList) -> Ask
     requires { length list ≡ 3 }
     ensures { (job : AJob) → job.list ≡ list → IsAskOf job result }
 {
-    let (Some(finish), Some(commit), Some(begin)) = (list.pop(), list.pop(), list.pop()) else {
+    let Some(Replacement { head, new: None }) = list.pop() else {
         return Ask::Other;
     };
-    match (begin.new, commit.new, finish.new) {
-        (Some(going), Some(taking), None) if begin.head == finish.head => Ask::Deletes(
-            DeletionAsk {
-                of: begin.head,
-                clone: commit.head,
-                going,
-                taking,
-            },
-        ),
-        _ => Ask::Other,
+    let Some(commit) = last_given(&mut list) else {
+        return Ask::Other;
+    };
+    let Some(begin) = last_given(&mut list) else {
+        return Ask::Other;
+    };
+    if begin.head != head {
+        return Ask::Other;
     }
+    Ask::Deletes(DeletionAsk {
+        of: head,
+        clone: commit.head,
+        going: begin.new,
+        taking: commit.new,
+    })
 }
 
 /// Four ask for a snapshot: a blob is written twice, then another one, and the first again.
@@ -189,26 +211,27 @@ fn snapshot(mut list: ReplacementList) -> Ask
     requires { length list ≡ 4 }
     ensures { (job : AJob) → job.list ≡ list → IsAskOf job result }
 {
-    let (Some(finish), Some(commit), Some(fill), Some(begin)) = (
-        list.pop(),
-        list.pop(),
-        list.pop(),
-        list.pop(),
-    ) else {
+    let Some(finish) = last_given(&mut list) else {
+        return Ask::Other;
+    };
+    let Some(commit) = last_given(&mut list) else {
+        return Ask::Other;
+    };
+    let Some(fill) = last_given(&mut list) else {
+        return Ask::Other;
+    };
+    let Some(begin) = last_given(&mut list) else {
         return Ask::Other;
     };
     if begin.head != fill.head || begin.head != finish.head {
         return Ask::Other;
     }
-    match (begin.new, fill.new, commit.new, finish.new) {
-        (Some(begun), Some(filled), Some(emptied), Some(made)) => Ask::Snapshots(SnapshotAsk {
-            head: begin.head,
-            of: commit.head,
-            begun,
-            filled,
-            emptied,
-            made,
-        }),
-        _ => Ask::Other,
-    }
+    Ask::Snapshots(SnapshotAsk {
+        head: begin.head,
+        of: commit.head,
+        begun: begin.new,
+        filled: fill.new,
+        emptied: commit.new,
+        made: finish.new,
+    })
 }

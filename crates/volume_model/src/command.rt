@@ -1,6 +1,6 @@
 //! Commands on volumes.
 
-ghost use Rattle.std.specs.Prelude.{IfOk};
+ghost use Rattle.std.specs.Prelude.{◌≡◌, IfOk};
 ghost use Rattle.volume_model.specs.Copies.{IsSameWord, IsSameCommand};
 
 use crate::copy::TryCopy;
@@ -171,24 +171,22 @@ impl Command {
                 page: *page,
             },
             Command::Flush => Command::Flush,
-            Command::SetX { volume, key, value } => Command::SetX {
-                volume: volume.try_copy(alloc)?,
-                key: key.try_copy(alloc)?,
-                value: value.try_copy(alloc)?,
-            },
-            Command::DelX { volume, key } => Command::DelX {
-                volume: volume.try_copy(alloc)?,
-                key: key.try_copy(alloc)?,
-            },
-            Command::GetX { volume, key } => Command::GetX {
-                volume: volume.try_copy(alloc)?,
-                key: key.try_copy(alloc)?,
-            },
-            Command::Put { volume, key, value } => Command::Put {
-                volume: volume.try_copy(alloc)?,
-                key: key.try_copy(alloc)?,
-                value: value.try_copy(alloc)?,
-            },
+            Command::SetX { volume, key, value } => {
+                let (volume, key, value) = copies_of_three(volume, key, value, alloc)?;
+                Command::SetX { volume, key, value }
+            }
+            Command::DelX { volume, key } => {
+                let (volume, key) = copies_of(volume, key, alloc)?;
+                Command::DelX { volume, key }
+            }
+            Command::GetX { volume, key } => {
+                let (volume, key) = copies_of(volume, key, alloc)?;
+                Command::GetX { volume, key }
+            }
+            Command::Put { volume, key, value } => {
+                let (volume, key, value) = copies_of_three(volume, key, value, alloc)?;
+                Command::Put { volume, key, value }
+            }
             Command::Sync { volume } => Command::Sync {
                 volume: volume.try_copy(alloc)?,
             },
@@ -196,14 +194,14 @@ impl Command {
                 volume: volume.try_copy(alloc)?,
                 slots: *slots,
             },
-            Command::Snapshot { volume, name } => Command::Snapshot {
-                volume: volume.try_copy(alloc)?,
-                name: name.try_copy(alloc)?,
-            },
-            Command::Clone { volume, name } => Command::Clone {
-                volume: volume.try_copy(alloc)?,
-                name: name.try_copy(alloc)?,
-            },
+            Command::Snapshot { volume, name } => {
+                let (volume, name) = copies_of(volume, name, alloc)?;
+                Command::Snapshot { volume, name }
+            }
+            Command::Clone { volume, name } => {
+                let (volume, name) = copies_of(volume, name, alloc)?;
+                Command::Clone { volume, name }
+            }
             Command::Inflate { volume } => Command::Inflate {
                 volume: volume.try_copy(alloc)?,
             },
@@ -213,10 +211,10 @@ impl Command {
             Command::Delete { volume } => Command::Delete {
                 volume: volume.try_copy(alloc)?,
             },
-            Command::Rename { volume, name } => Command::Rename {
-                volume: volume.try_copy(alloc)?,
-                name: name.try_copy(alloc)?,
-            },
+            Command::Rename { volume, name } => {
+                let (volume, name) = copies_of(volume, name, alloc)?;
+                Command::Rename { volume, name }
+            }
             Command::ReadOnly { volume } => Command::ReadOnly {
                 volume: volume.try_copy(alloc)?,
             },
@@ -227,4 +225,29 @@ impl Command {
             Command::Df => Command::Df,
         })
     }
+}
+
+/// Copies of both.
+fn copies_of<A: TryCopy + Drop, B: TryCopy + Drop>(
+    first: &A,
+    second: &B,
+    alloc: Global,
+) -> Result<(A, B), Memory>
+    ensures { IfOk result (λ copies. copies ≡ (first.now, second.now)) }
+{
+    let first = first.try_copy(alloc)?;
+    Ok((first, second.try_copy(alloc)?))
+}
+
+/// Copies of all three.
+fn copies_of_three<A: TryCopy + Drop, B: TryCopy + Drop, C: TryCopy + Drop>(
+    first: &A,
+    second: &B,
+    third: &C,
+    alloc: Global,
+) -> Result<(A, B, C), Memory>
+    ensures { IfOk result (λ copies. copies ≡ (first.now, second.now, third.now)) }
+{
+    let (first, second) = copies_of(first, second, alloc)?;
+    Ok((first, second, third.try_copy(alloc)?))
 }

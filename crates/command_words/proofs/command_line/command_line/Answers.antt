@@ -5,19 +5,10 @@ use Rattle.command_words.proofs.command_line.command_line.Goals as goal
 
 pub returns : goal.returns
 returns c =
-    IfOk-weaker c.subcommand-5.result _ _
+    IfOk-weaker c.subcommand-2.result _ _
     (λ r added. added.shape c.in_ok-exercise_line.ensures.local
     ∙ ap₂ with_subcommand
-    (c.in_ok-subcommand-4.ensures.shape c.in_ok-generate_line.ensures.local
-    ∙ ap₂ with_subcommand
-    (c.in_ok-subcommand-3.ensures.shape c.in_ok-list_line.ensures.local
-    ∙ ap₂ with_subcommand
-    (c.in_ok-subcommand-2.ensures.shape c.in_ok-format_line.ensures.local
-    ∙ ap₂ with_subcommand
-    (c.in_ok-subcommand.ensures.shape c.in_ok-run_line.ensures.local
-    ∙ ap₂ with_subcommand c.in_ok-without_commands.ensures c.in_ok-run_line.ensures.shape)
-    c.in_ok-format_line.ensures.shape)
-    c.in_ok-list_line.ensures.shape)
-    c.in_ok-generate_line.ensures.shape)
+    (c.in_ok-subcommand.ensures.shape c.in_ok-generate_line.ensures.local
+    ∙ ap₂ with_subcommand c.in_ok-with_stores.ensures c.in_ok-generate_line.ensures.shape)
     c.in_ok-exercise_line.ensures.shape)
-    c.subcommand-5.ensures
+    c.subcommand-2.ensures
