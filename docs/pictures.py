@@ -48,23 +48,24 @@ class Picture:
 COLUMNS_WIDE, COLUMN, ROW, LEFT, TOP = 6, 150, 70, 170, 20
 # name: first column, last column, row; a crate stands on crates of lower rows alone
 CRATES = {
-    "blobtool": (1, 6, 0), "blob_tool": (1, 6, 1), "command_words": (3, 3, 2), "channels": (4, 5, 2),
-    "script_lang": (1, 1, 3), "md_thread": (3, 4, 3), "streams": (6, 6, 3),
-    "lvol_store": (3, 3, 4), "thin_write": (5, 5, 4), "store_format": (1, 1, 4),
-    "unclean_load": (2, 2, 5), "data_path": (5, 5, 5), "blob_report": (6, 6, 5),
-    "store_core": (4, 4, 6), "run_moves": (6, 6, 6), "job_begins": (4, 4, 7),
-    "channel_turns": (3, 3, 8), "metadata_turns": (4, 4, 8), "repair_runs": (6, 6, 8), "clean_images": (6, 6, 9), "running_store": (3, 4, 9),
-    "md_queue": (1, 1, 10), "io_freeze": (3, 3, 10), "store_model": (4, 4, 10),
-    "md_chain": (2, 2, 11), "pools": (4, 4, 11), "shown_volumes": (6, 6, 11),
-    "md_page": (3, 3, 12), "inflate_delete": (6, 6, 12), "snapshots": (6, 6, 13), "blob_meta": (1, 1, 14),
-    "clean_stop": (4, 4, 14), "descriptors": (1, 1, 15), "super_block": (3, 3, 15), "page_runs": (4, 4, 15),
-    "run_work": (6, 6, 15),
-    "volume_model": (1, 1, 16), "page_fields": (3, 3, 16), "bit_array": (4, 4, 16),
-    "page_disk": (2, 6, 17), "out_of_memory": (1, 2, 18), "crc32c": (3, 6, 18),
+    "blobtool": (1, 6, 0), "host_io": (4, 6, 1), "blob_tool": (1, 6, 2), "command_words": (3, 3, 3),
+    "channels": (4, 5, 3),
+    "script_lang": (1, 1, 4), "md_thread": (3, 4, 4), "streams": (6, 6, 4),
+    "lvol_store": (3, 3, 5), "thin_write": (5, 5, 5), "store_format": (1, 1, 5),
+    "unclean_load": (2, 2, 6), "data_path": (5, 5, 6), "blob_report": (6, 6, 6),
+    "store_core": (4, 4, 7), "run_moves": (6, 6, 7), "job_begins": (4, 4, 8),
+    "channel_turns": (3, 3, 9), "metadata_turns": (4, 4, 9), "repair_runs": (6, 6, 9), "clean_images": (6, 6, 10), "running_store": (3, 4, 10),
+    "md_queue": (1, 1, 11), "io_freeze": (3, 3, 11), "store_model": (4, 4, 11),
+    "md_chain": (2, 2, 12), "pools": (4, 4, 12), "shown_volumes": (6, 6, 12),
+    "md_page": (3, 3, 13), "inflate_delete": (6, 6, 13), "snapshots": (6, 6, 14), "blob_meta": (1, 1, 15),
+    "clean_stop": (4, 4, 15), "descriptors": (1, 1, 16), "super_block": (3, 3, 16), "page_runs": (4, 4, 16),
+    "run_work": (6, 6, 16),
+    "volume_model": (1, 1, 17), "page_fields": (3, 3, 17), "bit_array": (4, 4, 17),
+    "page_disk": (2, 6, 18), "out_of_memory": (1, 2, 19), "crc32c": (3, 6, 19),
 }
 BANDS = [
-    (0, 1, "the program"), (2, 4, "a run's actors,|scripts, plans,|a new store"), (5, 10, "the running|store"),
-    (11, 15, "metadata and|places"), (16, 16, "volumes, fields,|sets"), (17, 18, "the device and|the bottom"),
+    (0, 2, "the program"), (3, 5, "a run's actors,|scripts, plans,|a new store"), (6, 11, "the running|store"),
+    (12, 16, "metadata and|places"), (17, 17, "volumes, fields,|sets"), (18, 19, "the device and|the bottom"),
 ]
 STEPS = [
     "1  main opens the image that the words name, and hands over words, source, sink and device",

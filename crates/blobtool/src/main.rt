@@ -4,22 +4,12 @@
 //! error; where the words are no command, or ask for help, with `clap`'s text.
 #![tactic(auto)]
 
-mod ending;
-mod file_disk;
-mod image;
-mod std_sink;
-mod std_source;
-
 use blob_tool::{Status, blobtool};
 use command_words::{CommandWords, read_words, refusal};
-use ending::Ending;
-use file_disk::FileDisk;
-use image::{Access, OpenFault};
+use host_io::{Access, Ending, FileDisk, OpenFault, StdSink, StdSource};
 use page_disk::{MemDisk, PageDisk};
 use std::process::ExitCode;
 use std::{env, io};
-use std_sink::StdSink;
-use std_source::StdSource;
 
 /// The words after the program's name.
 fn words(rt: &HostRuntime) -> io::Result<Vec<String>> {
@@ -32,7 +22,7 @@ fn words(rt: &HostRuntime) -> io::Result<Vec<String>> {
 
 /// The disk over the file of an image, which is locked for as long as the disk is there.
 fn open(rt: &HostRuntime, image: &str, access: Access) -> Result<FileDisk, OpenFault> {
-    Ok(FileDisk::new(image::open(rt, image, access)?)?)
+    Ok(FileDisk::new(host_io::open(rt, image, access)?)?)
 }
 
 /// The ending at words that are no command, or of which one isn't of its form.

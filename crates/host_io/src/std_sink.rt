@@ -13,6 +13,7 @@ pub struct StdSink<W: Write + Drop> {
 }
 
 impl<W: Write + Drop> StdSink<W> {
+    /// The sink that hands its bytes to this writer, with no fault yet.
     pub fn new(writer: W) -> StdSink<W> {
         StdSink { writer, faults: 0 }
     }
