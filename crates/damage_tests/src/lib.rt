@@ -1,5 +1,5 @@
-//! Tests of damaged images and failing calls: each fault with its numbers, which of two faults is told, what looks
-//! wrong and is no fault, and how whole runs end.
+//! Tests of what is loaded: whole stores, by their masks or by a scan, damaged images and failing calls. Each fault
+//! with its numbers, which of two faults is told, what looks wrong and is no fault, and how whole runs end.
 #![tactic(auto)]
 
 #[cfg(test)]
@@ -17,6 +17,8 @@ mod images;
 #[cfg(test)]
 mod loads;
 #[cfg(test)]
+mod mask_headers;
+#[cfg(test)]
 mod metadata;
 #[cfg(test)]
 mod orders;
@@ -32,3 +34,5 @@ mod runs;
 mod sizes;
 #[cfg(test)]
 mod super_blocks;
+#[cfg(test)]
+mod whole_stores;

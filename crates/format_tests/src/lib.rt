@@ -1,7 +1,12 @@
-//! Tests of the crates that a store's pages stand on: `page_fields`, `md_page`, `super_block`, `clean_stop`,
-//! `bit_array`, `pools` and `io_freeze`.
+//! Tests of the crates that a store's device stands on (`crc32c`, `page_disk`), of its pages, its super block and its
+//! masks (`page_fields`, `md_page`, `super_block`, `clean_stop`, `bit_array`), and of what is clear or frozen (`pools`,
+//! `io_freeze`).
 #![tactic(auto)]
 
+#[cfg(test)]
+mod checksum;
+#[cfg(test)]
+mod disk;
 #[cfg(test)]
 mod guards;
 #[cfg(test)]

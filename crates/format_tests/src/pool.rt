@@ -1,7 +1,13 @@
 //! Claims on the places of a pool.
 
 use pools::{Bits, ClusterPool, PagePool, given_back_at_once};
+use std::process::Abort;
 use std::test::Fail;
+
+/// Expects so many places in use, and so many that are clear.
+fn expect_counts(rt: &impl Abort, pool: &ClusterPool, used: u32, clear: u32) {
+    assert!(rt; pool.bits().count() == used && pool.clear_count() == clear);
+}
 
 #[test]
 fn least_clear_places_are_claimed(rt: HostRuntime) -> Result<(), Fail> {
@@ -10,20 +16,13 @@ fn least_clear_places_are_claimed(rt: HostRuntime) -> Result<(), Fail> {
     let first = pool.claim().expect(&rt, "a clear place");
     let second = pool.claim().expect(&rt, "a clear place");
     pool.open_claims_differ();
-    assert_eq!(rt;
-        (
-            first.at(),
-            second.at(),
-            pool.bits().count(),
-            pool.clear_count()
-        ),
-        (0, 1, 2, 1)
-    );
+    assert!(rt; first.at() == 0 && second.at() == 1);
+    expect_counts(&rt, &pool, 2, 1);
     pool.give_back(first);
-    assert_eq!(rt; (pool.keep(second), pool.clear_count()), (1, 2));
+    assert!(rt; pool.keep(second) == 1);
+    expect_counts(&rt, &pool, 1, 2);
     pool.free(1);
-    let bits = pool.into_bits();
-    assert_eq!(rt; bits.count(), 0);
+    assert!(rt; pool.into_bits().count() == 0);
     Ok(())
 }
 
@@ -43,9 +42,8 @@ fn a_full_pool_has_no_claim(rt: HostRuntime) -> Result<(), Fail> {
             assert!(rt; false, "a claim of a full pool");
         }
         None => {
-            assert_eq!(rt; (kept, pool.clear_count()), (0, 0));
-            let bits = pool.into_bits();
-            assert_eq!(rt; bits.count(), 1);
+            assert!(rt; kept == 0 && pool.clear_count() == 0);
+            assert!(rt; pool.into_bits().count() == 1);
         }
     }
     Ok(())

@@ -16,6 +16,13 @@ use super_block::{Masks, read_super, write_super};
 /// metadata and data.
 const OTHERS: [u64; 5] = [1, 4, 19, 21, 63];
 
+/// The pages of the masks of an unloaded store, and how each begins.
+const MASK_TEXTS: [(u64, [u8; 8]); 3] = [
+    (20, [0x00, 0x10, 0, 0, 0, 0x03, 0x02, 0]),
+    (2, [0x01, 0x10, 0, 0, 0, 0x81, 0x80, 0]),
+    (3, [0x02, 0x10, 0, 0, 0, 0x01, 0x02, 0]),
+];
+
 /// The page of the small store's super block, with this `clean`, and with a page mask of two pages behind the metadata.
 fn super_page(clean: u32) -> Page {
     let mut sup = small();
@@ -27,16 +34,40 @@ fn super_page(clean: u32) -> Page {
     page
 }
 
-/// A disk of 64 pages with the store of this super block, and with sevens in the other pages.
-fn disk_with(rt: &impl Abort, alloc: Global, super_page: &Page) -> Result<MemDisk, Fail> {
-    let mut disk = MemDisk::new(alloc, 64, 20)?;
-    disk.write(0, super_page, WriteKind::Whole)?;
+/// What a page of the disk holds.
+fn read(rt: &impl Abort, disk: &mut MemDisk, at: u64) -> Result<Page, Fail> {
+    assert!(rt; at < disk.pages());
+    let mut page = [0; 4096];
+    disk.read(at, &mut page)?;
+    Ok(page)
+}
+
+fn write(rt: &impl Abort, disk: &mut MemDisk, at: u64, page: &Page) -> Result<(), Fail> {
+    assert!(rt; at < disk.pages());
+    disk.write(at, page, WriteKind::Whole)?;
+    Ok(())
+}
+
+/// Puts the store of this super block on a disk, and sevens in the other pages.
+fn fill(rt: &impl Abort, disk: &mut MemDisk, super_page: &Page) -> Result<(), Fail> {
+    write(rt, disk, 0, super_page)?;
     for page in OTHERS {
-        assert!(rt; page < disk.pages());
-        disk.write(page, &[7; 4096], WriteKind::Whole)?;
+        write(rt, disk, page, &[7; 4096])?;
     }
     disk.flush()?;
-    Ok(disk)
+    Ok(())
+}
+
+/// A disk of 64 pages with the store that has this `clean`, which makes so many calls and then stops.
+fn stopping(
+    rt: &impl Abort,
+    alloc: Global,
+    clean: u32,
+    calls: u64,
+) -> Result<FaultDisk<MemDisk>, Fail> {
+    let mut disk = MemDisk::new(alloc, 64, 20)?;
+    fill(rt, &mut disk, &super_page(clean))?;
+    Ok(FaultDisk::stopping(disk, calls))
 }
 
 /// The used metadata pages 0, 1 and 9, the used clusters 0, 7 and 15, and the heads 0 and 9.
@@ -52,12 +83,31 @@ fn masks(alloc: Global) -> Result<Masks, Memory>
     })
 }
 
-/// What a page of the disk holds.
-fn read(rt: &impl Abort, disk: &mut MemDisk, at: u64) -> Result<Page, Fail> {
-    assert!(rt; at < disk.pages());
-    let mut page = [0; 4096];
-    disk.read(at, &mut page)?;
-    Ok(page)
+/// Expects that the super block on the disk has this `clean`.
+fn expect_clean(rt: &impl Abort, disk: &mut MemDisk, clean: u32) -> Result<(), Fail> {
+    assert!(rt; read(rt, disk, 0)? == super_page(clean));
+    Ok(())
+}
+
+/// What a crash leaves of a disk.
+fn left(disk: FaultDisk<MemDisk>, pick: u64) -> Result<MemDisk, Fail> {
+    Ok(disk.into_inner().crash(pick)?)
+}
+
+/// Marks the clean store, and expects whether that is done.
+fn expect_mark(rt: &impl Abort, disk: &mut FaultDisk<MemDisk>, is_done: bool) -> Result<(), Fail> {
+    let mut sup = read_super(&super_page(1), 64)?;
+    assert!(rt; sup.device_pages == disk.pages());
+    assert!(rt; mark_dirty(disk, &mut sup).is_ok() == is_done);
+    assert!(rt; sup.clean == if is_done { 0 } else { 1 });
+    Ok(())
+}
+
+/// The disk that such a mark and a crash leave.
+fn left_by_mark(rt: &impl Abort, alloc: Global, calls: u64, pick: u64) -> Result<MemDisk, Fail> {
+    let mut disk = stopping(rt, alloc, 1, calls)?;
+    expect_mark(rt, &mut disk, calls == 3)?;
+    left(disk, pick)
 }
 
 #[test]
@@ -66,19 +116,60 @@ fn a_mark_that_stops_leaves_the_old_super_block_or_the_new_one(
 ) -> Result<(), Fail> {
     for calls in 0..4 {
         for pick in 0..16 {
-            let disk = disk_with(&rt, rt.alloc(), &super_page(1))?;
-            let mut disk = FaultDisk::stopping(disk, calls);
-            let mut sup = read_super(&super_page(1), 64)?;
-            assert_eq!(rt; sup.device_pages, disk.pages());
-            assert_eq!(rt; mark_dirty(&mut disk, &mut sup).is_ok(), calls == 3);
             let is_marked = calls == 3 || (calls == 2 && pick % 4 == 1);
-            let mut after = disk.into_inner().crash(pick)?;
-            let left = super_page(if is_marked { 0 } else { 1 });
-            assert!(rt; read(&rt, &mut after, 0)? == left);
-            assert_eq!(rt; sup.clean, if calls == 3 { 0 } else { 1 });
+            let mut left = left_by_mark(&rt, rt.alloc(), calls, pick)?;
+            expect_clean(&rt, &mut left, if is_marked { 0 } else { 1 })?;
         }
     }
     Ok(())
+}
+
+/// Unloads the store that has this `clean`, and expects whether that is done.
+fn expect_unload(
+    rt: &impl Abort,
+    alloc: Global,
+    disk: &mut FaultDisk<MemDisk>,
+    clean: u32,
+    is_done: bool,
+) -> Result<(), Fail> {
+    let mut sup = read_super(&super_page(clean), 64)?;
+    assert!(rt; sup.device_pages == disk.pages());
+    assert!(rt; sup.md_len == 16 && sup.clusters() == 16);
+    let masks = masks(alloc)?;
+    assert!(rt; unload(disk, &mut sup, &masks).is_ok() == is_done);
+    Ok(())
+}
+
+/// The disk that such an unload of a store in use and a crash leave.
+fn left_by_unload(rt: &impl Abort, alloc: Global, calls: u64, pick: u64) -> Result<MemDisk, Fail> {
+    let mut disk = stopping(rt, alloc, 0, calls)?;
+    expect_unload(rt, alloc, &mut disk, 0, calls == 6)?;
+    left(disk, pick)
+}
+
+/// Expects the texts of the masks.
+fn expect_masks(rt: &impl Abort, disk: &mut MemDisk) -> Result<(), Fail> {
+    for (at, text) in MASK_TEXTS {
+        assert!(rt; read(rt, disk, at)?[..8] == text[..]);
+    }
+    Ok(())
+}
+
+/// Expects that the other pages hold sevens.
+fn expect_others(rt: &impl Abort, disk: &mut MemDisk) -> Result<(), Fail> {
+    for at in OTHERS {
+        assert!(rt; read(rt, disk, at)? == [7; 4096]);
+    }
+    Ok(())
+}
+
+/// Expects an unloaded store, or one that is in use.
+fn expect_left(rt: &impl Abort, disk: &mut MemDisk, is_clean: bool) -> Result<(), Fail> {
+    expect_clean(rt, disk, if is_clean { 1 } else { 0 })?;
+    if is_clean {
+        expect_masks(rt, disk)?;
+    }
+    expect_others(rt, disk)
 }
 
 #[test]
@@ -86,47 +177,25 @@ fn an_unload_that_stops_leaves_the_old_super_block_or_whole_masks(
     rt: HostRuntime,
 ) -> Result<(), Fail> {
     unloaded_masks_are_read();
-    let texts = [
-        (20, [0x00, 0x10, 0, 0, 0, 0x03, 0x02, 0]),
-        (2, [0x01, 0x10, 0, 0, 0, 0x81, 0x80, 0]),
-        (3, [0x02, 0x10, 0, 0, 0, 0x01, 0x02, 0]),
-    ];
     for calls in 0..7 {
         for pick in 0..16 {
-            let disk = disk_with(&rt, rt.alloc(), &super_page(0))?;
-            let mut disk = FaultDisk::stopping(disk, calls);
-            let mut sup = read_super(&super_page(0), 64)?;
-            assert_eq!(rt; sup.device_pages, disk.pages());
-            assert_eq!(rt; (sup.md_len, sup.clusters()), (16, 16));
-            let masks = masks(rt.alloc())?;
-            assert_eq!(rt; unload(&mut disk, &mut sup, &masks).is_ok(), calls == 6);
             let is_clean = calls == 6 || (calls == 5 && pick % 4 == 1);
-            let mut after = disk.into_inner().crash(pick)?;
-            let left = super_page(if is_clean { 1 } else { 0 });
-            assert!(rt; read(&rt, &mut after, 0)? == left);
-            for (at, text) in texts {
-                assert!(rt; !is_clean || read(&rt, &mut after, at)?[..8] == text[..]);
-            }
-            for at in OTHERS {
-                assert!(rt; read(&rt, &mut after, at)? == [7; 4096]);
-            }
+            let mut left = left_by_unload(&rt, rt.alloc(), calls, pick)?;
+            expect_left(&rt, &mut left, is_clean)?;
         }
     }
     Ok(())
 }
 
+fn expect_flush_alone(rt: &impl Abort, disk: &FaultDisk<MemDisk>) {
+    assert!(rt; disk.calls(CallKind::Write) == 0);
+    assert!(rt; disk.calls(CallKind::Flush) == 1);
+}
+
 #[test]
 fn a_clean_store_is_flushed_and_no_more(rt: HostRuntime) -> Result<(), Fail> {
-    let disk = disk_with(&rt, rt.alloc(), &super_page(1))?;
-    let mut disk = FaultDisk::stopping(disk, 1);
-    let mut sup = read_super(&super_page(1), 64)?;
-    assert_eq!(rt; sup.device_pages, disk.pages());
-    assert_eq!(rt; (sup.md_len, sup.clusters()), (16, 16));
-    let masks = masks(rt.alloc())?;
-    assert_eq!(rt; unload(&mut disk, &mut sup, &masks), Ok(()));
-    assert_eq!(rt;
-        (disk.calls(CallKind::Write), disk.calls(CallKind::Flush)),
-        (0, 1)
-    );
+    let mut disk = stopping(&rt, rt.alloc(), 1, 1)?;
+    expect_unload(&rt, rt.alloc(), &mut disk, 1, true)?;
+    expect_flush_alone(&rt, &disk);
     Ok(())
 }

@@ -1,9 +1,11 @@
 //! Tests of a running store by its public calls: writes of several channels to empty slots, beside resizes, snapshots
-//! and deletes, in an order that is given turn by turn.
+//! and deletes, in an order that is given turn by turn; how a request for pages is split; and the queue of messages.
 #![tactic(auto)]
 
 #[cfg(test)]
 mod begins;
+#[cfg(test)]
+mod ends;
 #[cfg(test)]
 mod families;
 #[cfg(test)]
@@ -12,6 +14,8 @@ mod inserts;
 mod lacks;
 #[cfg(test)]
 mod orders;
+#[cfg(test)]
+mod parts;
 #[cfg(test)]
 mod sessions;
 #[cfg(test)]

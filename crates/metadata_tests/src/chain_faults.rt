@@ -59,27 +59,39 @@ fn page_of(row: &Row) -> Page {
     page
 }
 
-/// What comes of reading the chain at a head, of a device with these two pages whose nth read fails.
-fn fault(
-    rt: &impl Abort,
-    alloc: Global,
-    rows: &[Row; 2],
-    nth: u64,
-    head: u32,
-) -> Result<Option<ChainFault>, TestFail> {
+/// A device of which the nth read fails.
+fn failing(alloc: Global, nth: u64) -> Result<FaultDisk<MemDisk>, TestFail> {
     let fail = Fail {
         kind: CallKind::Read,
         nth,
     };
-    let mut disk = FaultDisk::new(MemDisk::new(alloc, 64, 8)?, vec![in alloc; fail]?);
+    let fails = vec![in alloc; fail]?;
+    Ok(FaultDisk::new(MemDisk::new(alloc, 64, 8)?, fails))
+}
+
+/// What comes of reading the chain at a head, of a device on which these two pages are put.
+fn fault_on(
+    rt: &impl Abort,
+    alloc: Global,
+    disk: &mut FaultDisk<MemDisk>,
+    (rows, head): (&[Row; 2], u32),
+) -> Result<Option<ChainFault>, TestFail> {
     for row in rows {
-        put(rt, &mut disk, row.place, &page_of(row))?;
+        put(rt, disk, row.place, &page_of(row))?;
     }
-    Ok(chain_in(rt, alloc, &mut disk, head)?.err())
+    Ok(chain_in(rt, alloc, disk, head)?.err())
 }
 
 /// Two pages, which of the reads fails, the place of the head, and the fault that is found.
 type Case = ([Row; 2], u64, u32, Option<ChainFault>);
+
+/// Expects what comes of a case.
+fn expect_case(rt: &impl Abort, alloc: Global, case: &Case) -> Result<(), TestFail> {
+    let (rows, nth, head, wanted) = case;
+    let mut disk = failing(alloc, *nth)?;
+    assert!(rt; fault_on(rt, alloc, &mut disk, (rows, *head))? == *wanted);
+    Ok(())
+}
 
 #[test]
 fn each_fault_of_a_chain_has_its_numbers(rt: HostRuntime) -> Result<(), TestFail> {
@@ -159,8 +171,8 @@ fn each_fault_of_a_chain_has_its_numbers(rt: HostRuntime) -> Result<(), TestFail
             }),
         ),
     ];
-    for (rows, nth, head, wanted) in cases {
-        assert_eq!(rt; fault(&rt, rt.alloc(), rows, *nth, *head)?, *wanted);
+    for case in cases {
+        expect_case(&rt, rt.alloc(), case)?;
     }
     Ok(())
 }

@@ -51,7 +51,7 @@ fn planned(rt: &impl Abort, alloc: Global, items: &ItemList) -> Result<Plan, Tes
     let mut fresh = PlaceList::new(alloc);
     fresh.push(2)?;
     fresh.push(9)?;
-    assert_eq!(rt; chain_len(items), 3);
+    assert!(rt; chain_len(items) == 3);
     Ok(plan_chain(alloc, items, 5, &fresh)?)
 }
 
@@ -64,7 +64,7 @@ struct PlannedPage {
     next: [u8; 4],
 }
 
-const PAGES: [PlannedPage; 3] = [
+static PAGES: [PlannedPage; 3] = [
     PlannedPage {
         place: 5,
         front: b"\x05\0\0\0\x01\0\0\0\0\0\0\0\0\0\0\0\
@@ -103,19 +103,29 @@ fn bytes_agree(page: &Page, wanted: &Page) -> bool {
     page[..4092] == wanted[..4092]
 }
 
+/// Expects the page of a plan at its place.
+fn expect_page(rt: &impl Abort, place: u32, page: &Page, wanted: &PlannedPage) {
+    assert!(rt; place == wanted.place);
+    let bytes = page_with(wanted.front, wanted.rest, wanted.next);
+    assert!(rt; bytes_agree(page, &bytes));
+    assert!(rt; page_ok(page));
+}
+
+/// Expects the three pages of a plan.
+fn expect_pages(rt: &impl Abort, plan: &Plan) {
+    assert!(rt; plan.len() == 3);
+    for (found, wanted) in plan.as_slice().iter().zip(&PAGES) {
+        expect_page(rt, found.place, &found.page, wanted);
+    }
+}
+
 #[test]
 fn a_volume_with_a_full_attribute_and_a_map_takes_three_pages(
     rt: HostRuntime,
 ) -> Result<(), TestFail> {
     let items = volume(rt.alloc())?;
     let plan = planned(&rt, rt.alloc(), &items)?;
-    assert_eq!(rt; plan.len(), 3);
-    for (found, wanted) in plan.as_slice().iter().zip(&PAGES) {
-        assert_eq!(rt; found.place, wanted.place);
-        let page = page_with(wanted.front, wanted.rest, wanted.next);
-        assert!(rt; bytes_agree(&found.page, &page));
-        assert!(rt; page_ok(&found.page));
-    }
+    expect_pages(&rt, &plan);
     Ok(())
 }
 
@@ -153,13 +163,42 @@ fn disk_of(rt: &impl Abort, alloc: Global, plan: &Plan) -> Result<MemDisk, TestF
     Ok(disk)
 }
 
+/// A device on which the pages of the plan of these items are written.
+fn disk_with(rt: &impl Abort, alloc: Global, items: &ItemList) -> Result<MemDisk, TestFail>
+    requires plannable { ArePlannable items.now }
+    requires few { AreFew items.now }
+{
+    let plan = planned(rt, alloc, items)?;
+    disk_of(rt, alloc, &plan)
+}
+
+fn expect_items(
+    rt: &impl Abort,
+    alloc: Global,
+    found: &ItemList,
+    wanted: &ItemList,
+) -> Result<(), TestFail> {
+    let wanted = text_of(alloc, wanted)?;
+    let said = text_of(alloc, found)?;
+    expect_text(rt, &said, wanted.as_str());
+    Ok(())
+}
+
+/// Expects that the chain at 5 has three pages, which say these items.
+fn expect_chain(
+    rt: &impl Abort,
+    alloc: Global,
+    disk: &mut MemDisk,
+    wanted: &ItemList,
+) -> Result<(), TestFail> {
+    let chain = chain_in(rt, alloc, disk, 5)??;
+    assert!(rt; chain.pages.as_slice() == [5, 2, 9].as_slice());
+    expect_items(rt, alloc, &chain.items, wanted)
+}
+
 #[test]
 fn a_written_plan_is_read_again(rt: HostRuntime) -> Result<(), TestFail> {
     let items = volume(rt.alloc())?;
-    let mut disk = disk_of(&rt, rt.alloc(), &planned(&rt, rt.alloc(), &items)?)?;
-    let chain = chain_in(&rt, rt.alloc(), &mut disk, 5)??;
-    assert!(rt; chain.pages.as_slice() == [5, 2, 9].as_slice());
-    let said = text_of(rt.alloc(), &chain.items)?;
-    expect_text(&rt, &said, text_of(rt.alloc(), &items)?.as_str());
-    Ok(())
+    let mut disk = disk_with(&rt, rt.alloc(), &items)?;
+    expect_chain(&rt, rt.alloc(), &mut disk, &items)
 }

@@ -14,7 +14,7 @@ use volume_model::{Blobtext, Memory, RunList, SlotRun};
 
 /// Expects that a text is the one that is wanted.
 pub(crate) fn expect_text(rt: &impl Abort, found: &String, wanted: &str) {
-    assert_eq!(rt; found.as_str(), wanted);
+    assert!(rt; found.as_str() == wanted, "{found}");
 }
 
 /// The derived text of a value.

@@ -1,11 +1,10 @@
 //! Each fault of metadata, and each public call once.
 
-ghost use Rattle.std.specs.Prelude.{[]};
-
 use crate::fixtures::{attribute, expect_text, internal_attribute, small, text_of};
-use blob_meta::{Flags, HasName, HeadMap, Job, Meta, Metas, find, from_items, to_items};
+use blob_meta::{Flags, Job, Meta, Metas, find, from_items, to_items};
 use descriptors::{Item, ItemList, SlotMap};
 use std::alloc::Global;
+use std::process::Abort;
 use std::test::Fail;
 use volume_model::{Memory, Name, RunList, SlotRun, TryCopy, VolumeRef, Xattr, XattrList};
 
@@ -156,12 +155,20 @@ const ITEMS: [Says; 4] = [
     Says::Runs(&[(5, 1), (0, 3)]),
 ];
 
+/// The items in which metadata is written, as text.
+fn written(alloc: Global, meta: &Meta) -> Result<String, Fail> {
+    text_of(alloc, &to_items(alloc, meta)?)
+}
+
+/// The items of the blob named `a`, as text.
+fn items_of_a(alloc: Global) -> Result<String, Fail> {
+    text_of(alloc, &items(alloc, &ITEMS)?)
+}
+
 #[test]
 fn metadata_is_written(rt: HostRuntime) -> Result<(), Fail> {
-    let alloc = rt.alloc();
-    let list = to_items(alloc, &named(alloc, 7, b"a\0")?)?;
-    let wanted = text_of(alloc, &items(alloc, &ITEMS)?)?;
-    expect_text(&rt, &text_of(alloc, &list)?, wanted.as_str());
+    let found = written(rt.alloc(), &named(rt.alloc(), 7, b"a\0")?)?;
+    expect_text(&rt, &found, items_of_a(rt.alloc())?.as_str());
     Ok(())
 }
 
@@ -195,10 +202,21 @@ fn three_blobs(alloc: Global) -> Result<Metas, Memory> {
     Ok(metas)
 }
 
+/// Expects that a volume is the blob at this head, where the super blob is at 2.
+fn expect_found(
+    rt: &impl Abort,
+    metas: &Metas,
+    volume: &VolumeRef,
+    wanted: Option<u32>,
+) -> Result<(), Fail> {
+    let sup = small((1 << 32) + 2)?;
+    assert!(rt; find(metas, &sup, volume) == wanted);
+    Ok(())
+}
+
 #[test]
 fn blobs_are_found(rt: HostRuntime) -> Result<(), Fail> {
     let metas = three_blobs(rt.alloc())?;
-    let sup = small((1 << 32) + 2)?;
     let cases = [
         (VolumeRef::Named(Name::new(b"a")), Some(6)),
         (VolumeRef::Named(Name::new(b"b")), None),
@@ -206,87 +224,30 @@ fn blobs_are_found(rt: HostRuntime) -> Result<(), Fail> {
         (VolumeRef::Head(3), None),
     ];
     for (volume, wanted) in &cases {
-        assert_eq!(rt; find(&metas, &sup, volume), *wanted);
+        expect_found(&rt, &metas, volume, *wanted)?;
     }
     Ok(())
+}
+
+/// The three blobs, of which the one at 6 has another name.
+fn renamed_blobs(alloc: Global) -> Result<Metas, Memory> {
+    let mut metas = three_blobs(alloc)?;
+    metas.insert(6, named(alloc, 6, b"b")?)?;
+    Ok(metas)
 }
 
 #[test]
 fn a_blob_of_another_name_is_found_by_that(rt: HostRuntime) -> Result<(), Fail> {
-    let alloc = rt.alloc();
-    let mut metas = three_blobs(alloc)?;
-    metas.insert(6, named(alloc, 6, b"b")?)?;
-    let sup = small((1 << 32) + 2)?;
-    assert_eq!(rt;
-        find(&metas, &sup, &VolumeRef::Named(Name::new(b"a"))),
-        Some(9)
-    );
-    assert_eq!(rt;
-        find(&metas, &sup, &VolumeRef::Named(Name::new(b"b"))),
-        Some(6)
-    );
-    Ok(())
-}
-
-/// A value that has no name.
-#[derive(Clone, Copy, Debug, PartialEq, Eq)]
-struct Number(u64);
-
-impl HasName for Number {
-    ghost name_of = { λ _. [] };
-
-    fn name(&self) -> &[u8] {
-        &[]
-    }
-}
-
-/// The map in which heads are given these values, one after another.
-fn filled(alloc: Global, values: &[(u32, u64)]) -> Result<HeadMap<Number>, Memory> {
-    let mut map = HeadMap::new(alloc);
-    for (head, value) in values {
-        map.insert(*head, Number(*value))?;
-    }
-    Ok(map)
-}
-
-/// What a map has at a head.
-fn number_at(map: &HeadMap<Number>, head: u32) -> Option<u64> {
-    map.get(head).map(|number| number.0)
-}
-
-#[test]
-fn a_map_from_heads_keeps_what_it_is_given(rt: HostRuntime) -> Result<(), Fail> {
-    let mut map = filled(rt.alloc(), &[(7, 1), (3, 2), (7, 3)])?;
-    assert_eq!(rt; (number_at(&map, 7), number_at(&map, 4)), (Some(3), None));
-    assert_eq!(rt;
-        (map.next_from(3), map.next_from(4), map.next_from(8)),
-        (Some(3), Some(7), None)
-    );
-    assert_eq!(rt; (map.remove(3), map.remove(3)), (Some(Number(2)), None));
-    assert_eq!(rt; map.next_from(0), Some(7));
-    Ok(())
-}
-
-#[test]
-fn a_map_from_heads_moves_into_its_room(rt: HostRuntime) -> Result<(), Fail> {
-    let mut map = filled(rt.alloc(), &[(7, 1), (3, 2)])?;
-    for (head, value) in [(5, 3), (7, 4)] {
-        let room = map.room(rt.alloc())?;
-        map.insert_in(room, head, Number(value));
-    }
-    assert_eq!(rt;
-        (number_at(&map, 3), number_at(&map, 5), number_at(&map, 7)),
-        (Some(2), Some(3), Some(4))
-    );
-    assert_eq!(rt; (map.next_from(4), map.next_from(6)), (Some(5), Some(7)));
-    Ok(())
+    let metas = renamed_blobs(rt.alloc())?;
+    expect_found(&rt, &metas, &VolumeRef::Named(Name::new(b"a")), Some(9))?;
+    expect_found(&rt, &metas, &VolumeRef::Named(Name::new(b"b")), Some(6))
 }
 
 #[test]
 fn a_job_of_one_replacement_is_its_commit(rt: HostRuntime) -> Result<(), Fail> {
     let alloc = rt.alloc();
     let job = Job::of_one(alloc, 7, named(alloc, 7, b"a")?)?;
-    assert_eq!(rt; (job.list.len(), job.commit), (1, 1));
-    assert_eq!(rt; (job.zero.len(), job.freeze), (0, None));
+    assert!(rt; job.list.len() == 1 && job.commit == 1);
+    assert!(rt; job.zero.len() == 0 && job.freeze.is_none());
     Ok(())
 }

@@ -86,6 +86,15 @@ fn answer(
 }
 
 /// The answer as its text.
+fn answer_text(alloc: Global, metas: &Metas, command: &Command) -> Result<String, Fail>
+    requires { IsOnAttributes command.now }
+{
+    let sup = small((1 << 32) + 2)?;
+    let found = answer(alloc, metas, &sup, command)?;
+    text_of(alloc, &found)
+}
+
+/// The answer to what is asked of a volume.
 fn asked(
     alloc: Global,
     metas: &Metas,
@@ -94,11 +103,10 @@ fn asked(
     key: &[u8],
 ) -> Result<String, Fail> {
     let command = command(alloc, verb, volume, Blobtext::new(alloc, key)?)?;
-    let found = answer(alloc, metas, &small((1 << 32) + 2)?, &command)?;
-    text_of(alloc, &found)
+    answer_text(alloc, metas, &command)
 }
 
-const CASES: &[(Verb, u32, &[u8], &str)] = &[
+static CASES: [(Verb, u32, &[u8], &str); 26] = [
     (Verb::Set(3), 9, b"name", "Some(NoVolume)"),
     (Verb::Set(3), 2, b"owner", "Some(Reserved)"),
     (Verb::Set(3), 6, b"name", "Some(Reserved)"),
@@ -130,7 +138,7 @@ const CASES: &[(Verb, u32, &[u8], &str)] = &[
 #[test]
 fn the_first_cause_is_answered(rt: HostRuntime) -> Result<(), Fail> {
     let metas = three_blobs(rt.alloc())?;
-    for (verb, head, key, wanted) in CASES {
+    for (verb, head, key, wanted) in &CASES {
         let found = asked(rt.alloc(), &metas, *verb, VolumeRef::Head(*head), key)?;
         expect_text(&rt, &found, wanted);
     }

@@ -6,6 +6,7 @@ use crate::fixtures::{expect_text, small, text_of};
 use blob_meta::{Flags, Meta, Metas, new_meta, refusal_of_create, refusal_of_resize, resized_meta};
 use descriptors::SlotMap;
 use std::alloc::Global;
+use std::process::Abort;
 use std::test::Fail;
 use volume_model::{Command, Memory, Name, VolumeRef, XattrList};
 
@@ -84,7 +85,7 @@ const MOST: u64 = 1 << 20;
 
 const TOO_MANY: u64 = MOST + 1;
 
-const CREATES: &[(&str, u64, &str)] = &[
+static CREATES: [(&str, u64, &str); 6] = [
     ("v", TOO_MANY, "Some(NameTaken)"),
     ("w", 1, "Some(NameTaken)"),
     ("u", TOO_MANY, "Some(TooLarge)"),
@@ -93,18 +94,24 @@ const CREATES: &[(&str, u64, &str)] = &[
     ("store", 0, "None"),
 ];
 
+/// The answer to a create as its text.
+fn create_answer(alloc: Global, metas: &Metas, name: Name, slots: u64) -> Result<String, Fail> {
+    let sup = small((1 << 32) + 2)?;
+    let found = refusal_of_create(metas, &sup, &create(name, slots));
+    text_of(alloc, &found)
+}
+
 #[test]
 fn the_first_cause_against_a_create_is_answered(rt: HostRuntime) -> Result<(), Fail> {
     let metas = metas(rt.alloc())?;
-    let sup = small((1 << 32) + 2)?;
-    for (name, slots, wanted) in CREATES {
-        let found = refusal_of_create(&metas, &sup, &create(name_of(name), *slots));
-        expect_text(&rt, &text_of(rt.alloc(), &found)?, wanted);
+    for (name, slots, wanted) in &CREATES {
+        let found = create_answer(rt.alloc(), &metas, name_of(name), *slots)?;
+        expect_text(&rt, &found, wanted);
     }
     Ok(())
 }
 
-const RESIZES: &[(u32, u64, &str)] = &[
+static RESIZES: [(u32, u64, &str); 9] = [
     (9, TOO_MANY, "Some(NoVolume)"),
     (2, TOO_MANY, "Some(Reserved)"),
     (6, TOO_MANY, "Some(ReadOnly)"),
@@ -116,13 +123,19 @@ const RESIZES: &[(u32, u64, &str)] = &[
     (5, 0, "None"),
 ];
 
+/// The answer to a resize as its text.
+fn resize_answer(alloc: Global, metas: &Metas, head: u32, slots: u64) -> Result<String, Fail> {
+    let sup = small((1 << 32) + 2)?;
+    let found = refusal_of_resize(metas, &sup, &resize(head, slots));
+    text_of(alloc, &found)
+}
+
 #[test]
 fn the_first_cause_against_a_resize_is_answered(rt: HostRuntime) -> Result<(), Fail> {
     let metas = metas(rt.alloc())?;
-    let sup = small((1 << 32) + 2)?;
-    for (head, slots, wanted) in RESIZES {
-        let found = refusal_of_resize(&metas, &sup, &resize(*head, *slots));
-        expect_text(&rt, &text_of(rt.alloc(), &found)?, wanted);
+    for (head, slots, wanted) in &RESIZES {
+        let found = resize_answer(rt.alloc(), &metas, *head, *slots)?;
+        expect_text(&rt, &found, wanted);
     }
     Ok(())
 }
@@ -139,33 +152,49 @@ fn shown(alloc: Global, meta: &Meta) -> Result<String, Fail> {
     )?)
 }
 
+/// What is shown of a new blob.
+fn new_shown(rt: &impl Abort, alloc: Global, thick: bool, slots: u32) -> Result<String, Fail> {
+    assert!(rt; slots <= 1_048_576);
+    let meta = new_meta(alloc, 3, XattrList::new(alloc), thick, slots)?;
+    shown(alloc, &meta)
+}
+
+static NEW: [(bool, u32, &str); 2] = [
+    (false, 2, "4294967299 1 0 0 [None, None]"),
+    (true, 0, "4294967299 0 0 0 []"),
+];
+
 #[test]
 fn new_slots_are_empty(rt: HostRuntime) -> Result<(), Fail> {
-    let cases: &[(bool, u32, &str)] = &[
-        (false, 2, "4294967299 1 0 0 [None, None]"),
-        (true, 0, "4294967299 0 0 0 []"),
-    ];
-    for (thick, slots, wanted) in cases {
-        let meta = new_meta(rt.alloc(), 3, XattrList::new(rt.alloc()), *thick, *slots)?;
-        expect_text(&rt, &shown(rt.alloc(), &meta)?, wanted);
+    for (thick, slots, wanted) in &NEW {
+        let found = new_shown(&rt, rt.alloc(), *thick, *slots)?;
+        expect_text(&rt, &found, wanted);
     }
     Ok(())
 }
 
+/// What is shown of a blob with another number of slots.
+fn resized_shown(rt: &impl Abort, alloc: Global, meta: &Meta, slots: u32) -> Result<String, Fail> {
+    assert!(rt; slots <= 1_048_576);
+    let resized = resized_meta(alloc, meta, slots)?;
+    shown(alloc, &resized)
+}
+
+static RESIZED: [(u32, &str); 3] = [
+    (0, "4294967301 1 0 1 []"),
+    (4, "4294967301 1 0 1 [Some(5), Some(6), Some(7), None]"),
+    (
+        8,
+        "4294967301 1 0 1 [Some(5), Some(6), Some(7), None, None, Some(9), None, None]",
+    ),
+];
+
 #[test]
 fn slots_are_cut_or_added_at_the_end(rt: HostRuntime) -> Result<(), Fail> {
     let six = blob(rt.alloc(), 5, b"v\0", 0)?;
-    let cases: &[(u32, &str)] = &[
-        (0, "4294967301 1 0 1 []"),
-        (4, "4294967301 1 0 1 [Some(5), Some(6), Some(7), None]"),
-        (
-            8,
-            "4294967301 1 0 1 [Some(5), Some(6), Some(7), None, None, Some(9), None, None]",
-        ),
-    ];
-    for (slots, wanted) in cases {
-        let meta = resized_meta(rt.alloc(), &six, *slots)?;
-        expect_text(&rt, &shown(rt.alloc(), &meta)?, wanted);
+    for (slots, wanted) in &RESIZED {
+        let found = resized_shown(&rt, rt.alloc(), &six, *slots)?;
+        expect_text(&rt, &found, wanted);
     }
     Ok(())
 }

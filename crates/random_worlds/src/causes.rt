@@ -47,12 +47,12 @@ fn may_decouple(state: &State, volume: &Volume) -> bool {
 
 /// Whether what is asked for changes something of this volume, not read-only, as far as not too little is clear.
 fn is_done_of(state: &State, ask: &Ask, volume: &Volume) -> bool {
-    match *ask {
-        Ask::Resize { slots, .. } => may_resize(state, volume, slots),
-        Ask::Write { page, .. } => page < volume.pages.len() as u64,
-        Ask::Set { attribute, .. } | Ask::Put { attribute, .. } => may_set(attribute),
-        Ask::Remove { key, .. } => has(&volume.live, key),
-        Ask::Snapshot { new, .. } | Ask::Rename { new, .. } => state.find(new).is_none(),
+    match ask {
+        Ask::Resize { slots, .. } => may_resize(state, volume, *slots),
+        Ask::Write { page, .. } => *page < volume.pages.len() as u64,
+        Ask::Set { attribute, .. } | Ask::Put { attribute, .. } => may_set(*attribute),
+        Ask::Remove { key, .. } => has(&volume.live, *key),
+        Ask::Snapshot { new, .. } | Ask::Rename { new, .. } => state.find(*new).is_none(),
         Ask::Decouple { .. } => may_decouple(state, volume),
         Ask::Sync { .. } | Ask::ReadOnly { .. } | Ask::Inflate { .. } => true,
         _ => false,

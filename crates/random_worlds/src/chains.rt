@@ -127,7 +127,6 @@ pub fn replace_chain(alloc: Global, next: &mut State, name: u8) -> Result<Option
         return Ok(Some(Lack::Pages));
     }
     let tail = take(alloc, &mut next.used_pages, fresh)?;
-    next.clear_tail(name)?;
-    next.set_tail(name, &tail)?;
+    next.replace_tail(name, &tail)?;
     Ok(None)
 }

@@ -44,6 +44,15 @@ fn empty(map: &mut [Option<u32>]) {
     }
 }
 
+/// Gives each volume whose parent is at this head another one, or none.
+fn replace_parent(volumes: &mut [Volume], head: Option<u32>, parent: Option<u32>) {
+    for volume in volumes.iter_mut() {
+        if volume.parent.is_some() && volume.parent == head {
+            volume.parent = parent;
+        }
+    }
+}
+
 /// Whether all pages outlast a crash from then on.
 fn settles(ask: &Ask) -> bool {
     !matches!(
@@ -95,21 +104,38 @@ impl Volume {
         Ok(made)
     }
 
-    /// Does what is asked for of it: its attributes and its pages change.
-    fn change(&mut self, alloc: Global, ask: &Ask) -> Result<(), Fail> {
+    /// Fills a page by a word.
+    fn write(&mut self, page: u64, word: u64) -> Result<(), Fail> {
+        let place = self.pages.get_mut(page as usize).ok_or("no page")?;
+        *place = PageState {
+            word,
+            is_settled: false,
+        };
+        Ok(())
+    }
+
+    /// Removes the attribute of a key.
+    fn remove(&mut self, alloc: Global, key: u8) -> Result<(), Fail> {
+        self.live = without(alloc, &self.live, key)?;
+        Ok(())
+    }
+
+    /// Changes its pages, or its attributes as they are read.
+    fn change_content(&mut self, alloc: Global, ask: &Ask) -> Result<(), Fail> {
         match *ask {
-            Ask::Resize { slots, .. } => with_slots(&mut self.pages, slots)?,
-            Ask::Write { page, word, .. } => {
-                let place = self.pages.get_mut(page as usize).ok_or("no page")?;
-                *place = PageState {
-                    word,
-                    is_settled: false,
-                };
-            }
+            Ask::Resize { slots, .. } => with_slots(&mut self.pages, slots),
+            Ask::Write { page, word, .. } => self.write(page, word),
             Ask::Set { attribute, .. } | Ask::Put { attribute, .. } => {
-                set(&mut self.live, attribute)?;
+                set(&mut self.live, attribute)
             }
-            Ask::Remove { key, .. } => self.live = without(alloc, &self.live, key)?,
+            Ask::Remove { key, .. } => self.remove(alloc, key),
+            _ => Ok(()),
+        }
+    }
+
+    /// Changes its name, or of what form it is.
+    fn change_form(&mut self, ask: &Ask) {
+        match *ask {
             Ask::Rename { new, .. } => self.name = new,
             Ask::ReadOnly { .. } => self.read_only = true,
             Ask::Inflate { .. } => {
@@ -118,6 +144,12 @@ impl Volume {
             }
             _ => {}
         }
+    }
+
+    /// Does what is asked for of it: its attributes and its pages change.
+    fn change(&mut self, alloc: Global, ask: &Ask) -> Result<(), Fail> {
+        self.change_content(alloc, ask)?;
+        self.change_form(ask);
         if matches!(
             ask,
             Ask::Put { .. } | Ask::Sync { .. } | Ask::ReadOnly { .. }
@@ -129,13 +161,14 @@ impl Volume {
 }
 
 impl State {
+    /// The head of the parent's parent of a volume, if it has one.
+    fn above(&self, name: u8) -> Option<u32> {
+        self.parent_of(self.find(name)?)?.parent
+    }
+
     /// Gives a volume its parent's parent, if that has one.
     fn decouple(&mut self, name: u8) -> Result<(), Fail> {
-        let volume = named(&self.volumes, name)?;
-        let above = match self.parent_of(volume) {
-            Some(parent) => parent.parent,
-            None => None,
-        };
+        let above = self.above(name);
         self.find_mut(name)?.parent = above;
         Ok(())
     }
@@ -145,37 +178,45 @@ impl State {
         let gone = named(&self.volumes, name)?;
         let (head, parent) = (gone.head(), gone.parent);
         self.volumes.retain(|volume| volume.name != name);
-        for volume in self.volumes.iter_mut() {
-            if volume.parent.is_some() && volume.parent == head {
-                volume.parent = parent;
-            }
-        }
+        replace_parent(&mut self.volumes, head, parent);
         Ok(())
+    }
+
+    /// The volume that a create, a snapshot or a clone makes at this head.
+    fn made(&mut self, alloc: Global, ask: &Ask, head: u32) -> Result<Volume, Fail> {
+        match *ask {
+            Ask::Create { name, slots, thick } => new_volume(alloc, name, slots, thick, head),
+            Ask::Snapshot { name, new } => self.find_mut(name)?.snapshot(alloc, new, head),
+            Ask::Clone { name, new } => named(&self.volumes, name)?.clone(alloc, new, head),
+            _ => Err(Fail::new("no volume is made")),
+        }
+    }
+
+    /// Changes the volume that is meant, if one is.
+    fn change_meant(&mut self, alloc: Global, ask: &Ask) -> Result<(), Fail> {
+        match ask.name() {
+            Some(name) => self.find_mut(name)?.change(alloc, ask),
+            None => Ok(()),
+        }
+    }
+
+    /// Changes the volumes that are there.
+    fn change_volumes(&mut self, alloc: Global, ask: &Ask) -> Result<(), Fail> {
+        match *ask {
+            Ask::Delete { name } => self.delete(name),
+            Ask::Decouple { name } => self.decouple(name),
+            _ => self.change_meant(alloc, ask),
+        }
     }
 
     /// Does what is asked for. A new volume gets this head, which is its chain; a snapshot gets the map of its volume,
     /// and any other one an empty map. Other maps and chains stay.
     pub fn change(&mut self, alloc: Global, ask: &Ask, head: u32) -> Result<(), Fail> {
-        match *ask {
-            Ask::Create { name, slots, thick } => {
-                let made = new_volume(alloc, name, slots, thick, head)?;
-                self.volumes.push(made)?;
-            }
-            Ask::Snapshot { name, new } => {
-                let made = self.find_mut(name)?.snapshot(alloc, new, head)?;
-                self.volumes.push(made)?;
-            }
-            Ask::Clone { name, new } => {
-                let made = named(&self.volumes, name)?.clone(alloc, new, head)?;
-                self.volumes.push(made)?;
-            }
-            Ask::Delete { name } => self.delete(name)?,
-            Ask::Decouple { name } => self.decouple(name)?,
-            _ => {
-                if let Some(name) = ask.name() {
-                    self.find_mut(name)?.change(alloc, ask)?;
-                }
-            }
+        if ask.makes() {
+            let made = self.made(alloc, ask, head)?;
+            self.volumes.push(made)?;
+        } else {
+            self.change_volumes(alloc, ask)?;
         }
         if settles(ask) {
             self.settle();

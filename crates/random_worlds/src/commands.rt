@@ -19,11 +19,15 @@ fn volume_of(letter: u8) -> VolumeRef {
     VolumeRef::Named(name_of(letter))
 }
 
+fn value_text(alloc: Global, attribute: Attribute) -> Result<Blobtext, Fail> {
+    let letters = value_of(alloc, attribute)?;
+    Ok(Blobtext::new(alloc, &letters)?)
+}
+
 /// The command that sets an attribute, and that syncs, or not.
 fn set(alloc: Global, name: u8, attribute: Attribute, syncs: bool) -> Result<Command, Fail> {
-    let letters = value_of(alloc, attribute)?;
-    let value = Blobtext::new(alloc, &letters)?;
     let key = Blobtext::new(alloc, key_text(attribute.key).as_bytes())?;
+    let value = value_text(alloc, attribute)?;
     let volume = volume_of(name);
     Ok(if syncs {
         Command::Put { volume, key, value }

@@ -41,15 +41,51 @@ pub fn snapshot(
         return Ok(Some(Lack::Pages));
     }
     let taken = take(alloc, &mut next.used_pages, needs.saturating_add(1))?;
+    let tails = snapshot_tails(&taken, passing, emptied)?;
+    lay_snapshot(alloc, next, ask, (name, new), &tails)?;
+    Ok(None)
+}
+
+/// The pages that a snapshot takes: its head, those of the chains that don't stay, and the new tails of the volume's
+/// chain and of its own.
+#[derive(Clone, Copy)]
+struct SnapshotTails<'a> {
+    head: u32,
+    passing: &'a [u32],
+    emptied: &'a [u32],
+    made: &'a [u32],
+}
+
+/// The pages that are taken, the head first, as far as so many don't stay and so many are the volume's.
+fn snapshot_tails(
+    taken: &[u32],
+    passing: usize,
+    emptied: usize,
+) -> Result<SnapshotTails<'_>, Fail> {
     let (head, rest) = taken.split_first().ok_or("no head")?;
     let (passing, staying) = rest.split_at_checked(passing).ok_or("no chain")?;
     let (emptied, made) = staying.split_at_checked(emptied).ok_or("no chain")?;
-    give_back_all(&mut next.used_pages, passing);
+    Ok(SnapshotTails {
+        head: *head,
+        passing,
+        emptied,
+        made,
+    })
+}
+
+/// Makes the snapshot of a volume, both of these names, on the pages that are taken.
+fn lay_snapshot(
+    alloc: Global,
+    next: &mut State,
+    ask: &Ask,
+    (name, new): (u8, u8),
+    tails: &SnapshotTails,
+) -> Result<(), Fail> {
+    give_back_all(&mut next.used_pages, tails.passing);
     next.clear_tail(name)?;
-    next.change(alloc, ask, *head)?;
-    next.set_tail(name, emptied)?;
-    next.set_tail(new, made)?;
-    Ok(None)
+    next.change(alloc, ask, tails.head)?;
+    next.set_tail(name, tails.emptied)?;
+    next.set_tail(new, tails.made)
 }
 
 /// A clone.
@@ -150,6 +186,17 @@ fn hand_over(
         return Ok(Some(Lack::Pages));
     }
     erase_for(alloc, next, (name, clone), &map, (going, needs))?;
+    end_hand_over(alloc, next, ask, clone, map)
+}
+
+/// The last step of a delete of a volume with one clone, which has this map from then on.
+fn end_hand_over(
+    alloc: Global,
+    next: &mut State,
+    ask: &Ask,
+    clone: u8,
+    map: Vec<Option<u32>>,
+) -> Result<Option<Lack>, Fail> {
     next.change(alloc, ask, 0)?;
     next.find_mut(clone)?.map = map;
     Ok(None)
@@ -168,6 +215,5 @@ fn erase_for(
     let (marked, tail) = taken.split_at_checked(going).ok_or("no chain")?;
     give_back_all(&mut next.used_pages, marked);
     erase(next, name, map)?;
-    next.clear_tail(clone)?;
-    next.set_tail(clone, tail)
+    next.replace_tail(clone, tail)
 }

@@ -3,7 +3,7 @@
 use crate::asks::Ask;
 use crate::chains::{Lack, replace_chain};
 use crate::marks::{clear_count, give_back, take_least};
-use crate::states::{State, named};
+use crate::states::{State, Volume, named};
 use std::alloc::Global;
 use std::test::Fail;
 
@@ -28,15 +28,20 @@ pub fn insert(
     Ok(lack)
 }
 
-/// The slots that are filled for what is asked: for an inflate each that is empty, for a decouple each of these that
-/// the parent's own map holds.
+/// Whether a slot is filled for what is asked: for an inflate where it is empty, for a decouple where moreover the
+/// parent's own map holds it.
+fn is_filled(state: &State, ask: &Ask, volume: &Volume, slot: usize) -> bool {
+    let is_empty = matches!(volume.map.get(slot), Some(None));
+    is_empty && (matches!(ask, Ask::Inflate { .. }) || state.is_held_above(volume, slot))
+}
+
+/// The slots that are filled for what is asked.
 fn slots_to_fill(alloc: Global, state: &State, ask: &Ask, name: u8) -> Result<Vec<usize>, Fail> {
     let volume = named(&state.volumes, name)?;
-    let is_inflate = matches!(ask, Ask::Inflate { .. });
     let mut slots = Vec::new(alloc);
-    for (at, slot) in volume.map.iter().enumerate() {
-        if slot.is_none() && (is_inflate || state.is_held_above(volume, at)) {
-            slots.push(at)?;
+    for slot in 0..volume.map.len() {
+        if is_filled(state, ask, volume, slot) {
+            slots.push(slot)?;
         }
     }
     Ok(slots)

@@ -48,22 +48,26 @@ fn push_attribute(script: &mut Vec<u8>, attribute: Attribute) -> Result<(), Fail
     push_long(script, b" t:", (attribute.letter, attribute.length))
 }
 
-/// Appends what stands behind the numbers of a line, and ends it.
-fn push_end(script: &mut Vec<u8>, ask: &Ask) -> Result<(), Fail> {
-    match *ask {
-        Ask::Create { thick: true, .. } => push_word(script, b"thick")?,
-        Ask::Create { .. } => push_word(script, b"thin")?,
+/// Appends the word behind the numbers of a line, where there is one and it tells no attribute.
+fn push_last(script: &mut Vec<u8>, ask: &Ask) -> Result<(), Fail> {
+    match ask {
+        Ask::Create { thick, .. } => push_word(script, if *thick { b"thick" } else { b"thin" }),
         Ask::Snapshot { new, .. } | Ask::Clone { new, .. } | Ask::Rename { new, .. } => {
-            push_word(script, &[new])?;
+            push_word(script, &[*new])
         }
         Ask::Remove { key, .. } | Ask::Get { key, .. } => {
-            push_word(script, key_text(key).as_bytes())?;
+            push_word(script, key_text(*key).as_bytes())
         }
-        Ask::Set { attribute, .. } | Ask::Put { attribute, .. } => {
-            return push_attribute(script, attribute);
-        }
-        _ => {}
+        _ => Ok(()),
     }
+}
+
+/// Appends what stands behind the numbers of a line, and ends it.
+fn push_end(script: &mut Vec<u8>, ask: &Ask) -> Result<(), Fail> {
+    if let Ask::Set { attribute, .. } | Ask::Put { attribute, .. } = ask {
+        return push_attribute(script, *attribute);
+    }
+    push_last(script, ask)?;
     script.push(b'\n')?;
     Ok(())
 }

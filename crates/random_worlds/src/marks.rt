@@ -1,5 +1,6 @@
 //! Which places of a store are in use: a mark is set where one is.
 
+use bit_array::Bits;
 use std::alloc::Global;
 use std::test::Fail;
 
@@ -57,4 +58,33 @@ pub fn give_back_all(marks: &mut [bool], places: &[u32]) {
     for place in places {
         give_back(marks, *place);
     }
+}
+
+/// The first place at which a mask says otherwise than the marks, and what it says.
+fn first_other(mask: &Bits, marks: &[bool]) -> Option<(u32, bool)> {
+    for (place, is_set) in (0..mask.len()).zip(marks.iter()) {
+        if (place < mask.len() && mask.get(place)) != *is_set {
+            return Some((place, !*is_set));
+        }
+    }
+    None
+}
+
+/// Expects that the marks are those of a mask.
+pub fn expect_marks(mask: &Bits, marks: &[bool]) -> Result<(), Fail> {
+    match first_other(mask, marks) {
+        Some((place, found)) => { Err(Fail::new(format_args!("place {place} is in use: {found}"))) }
+        None => Ok(()),
+    }
+}
+
+/// How many slots of a map hold a cluster.
+pub fn filled_count(map: &[Option<u32>]) -> usize {
+    let mut count = 0usize;
+    for slot in map {
+        if slot.is_some() {
+            count = count.wrapping_add(1);
+        }
+    }
+    count
 }

@@ -1,15 +1,15 @@
 //! What is loaded of a device, compared with a state.
 
 use crate::attributes::{Attribute, key_text, value_of};
+use crate::marks::{expect_marks, filled_count};
 use crate::states::{CLUSTER_PAGES, PageState, State, Volume};
-use bit_array::Bits;
 use blob_meta::{Chains, Meta, Metas, parent_of};
 use page_disk::{MemDisk, PageDisk};
 use running_store::Loaded;
 use std::alloc::Global;
 use std::test::Fail;
 use super_block::Masks;
-use unclean_load::load;
+use unclean_load::{LoadFault, load};
 use volume_model::{Df, PageWord, Xattr, page_of};
 
 /// What is loaded of a device, and whether a blob is marked, so that a repair is left.
@@ -48,8 +48,13 @@ pub fn shown_in(loaded: Loaded<MemDisk>) -> Shown {
 pub fn shown_of(alloc: Global, disk: MemDisk) -> Result<Shown, Fail> {
     match load(alloc, disk) {
         Ok(loaded) => Ok(shown_in(loaded)),
-        Err((_, fault)) => Err(Fail::new(fault)),
+        Err(refused) => Err(fault_of(refused)),
     }
+}
+
+/// The fault that a device which isn't loaded has.
+fn fault_of(refused: (MemDisk, LoadFault)) -> Fail {
+    Fail::new(refused.1)
 }
 
 /// Loads a store, and expects that it has these volumes, with each page, and that nothing is in use but what they claim
@@ -61,10 +66,7 @@ pub fn expect_volumes(
     disk: MemDisk,
 ) -> Result<Shown, Fail> {
     let mut shown = shown_of(alloc, disk)?;
-    if shown.is_marked || !shown.is(alloc, state, true)? {
-        return Err(Fail::new("other volumes are loaded"));
-    }
-    shown.expect_claimed(state, fixed)?;
+    shown.expect(alloc, state, fixed)?;
     Ok(shown)
 }
 
@@ -77,6 +79,19 @@ fn is_attribute(alloc: Global, found: &Xattr, wanted: Attribute) -> Result<bool,
     )
 }
 
+/// Whether attributes of a blob are these.
+fn are_attributes(alloc: Global, found: &[Xattr], wanted: &[Attribute]) -> Result<bool, Fail> {
+    if found.len() != wanted.len() {
+        return Ok(false);
+    }
+    for (xattr, attribute) in found.iter().zip(wanted.iter()) {
+        if !is_attribute(alloc, xattr, *attribute)? {
+            return Ok(false);
+        }
+    }
+    Ok(true)
+}
+
 /// Whether a blob is thin, and read-only, as a volume is, has its parent, and has no mark.
 fn is_of_form(meta: &Meta, volume: &Volume) -> bool {
     meta.flags.is_thin() != volume.thick
@@ -87,16 +102,10 @@ fn is_of_form(meta: &Meta, volume: &Volume) -> bool {
 
 /// Whether a blob has, behind `name` and `uuid`, the attributes that the volume has synced.
 fn has_synced(alloc: Global, meta: &Meta, volume: &Volume) -> Result<bool, Fail> {
-    let found = meta.xattrs.as_slice();
-    if found.len() != volume.synced.len().saturating_add(2) {
-        return Ok(false);
+    match meta.xattrs.as_slice().split_at_checked(2) {
+        Some((_, found)) => are_attributes(alloc, found, &volume.synced),
+        None => Ok(false),
     }
-    for (xattr, wanted) in found.iter().skip(2).zip(volume.synced.iter()) {
-        if !is_attribute(alloc, xattr, *wanted)? {
-            return Ok(false);
-        }
-    }
-    Ok(true)
 }
 
 /// The blob's parent, if it has one that has the page with this number.
@@ -200,24 +209,44 @@ impl Shown {
         Ok(true)
     }
 
+    /// Expects these volumes, with each page, no repair, and these claims.
+    fn expect(&mut self, alloc: Global, state: &State, fixed: u32) -> Result<(), Fail> {
+        if self.is_marked || !self.is(alloc, state, true)? {
+            return Err(Fail::new("other volumes are loaded"));
+        }
+        self.expect_claimed(state, fixed)
+    }
+
+    /// How many pages the chain of the blob at a head claims, and how many clusters its map.
+    fn claims_at(&self, head: u32) -> (usize, usize) {
+        match (self.metas.get(head), self.chains.get(head)) {
+            (Some(meta), Some(chain)) => (chain.len(), filled_count(meta.map.as_slice())),
+            _ => (0, 0),
+        }
+    }
+
+    /// How many pages and clusters the chains and maps claim, without those of blobs that recovery removes.
+    fn claims(&self) -> (usize, usize) {
+        let (mut pages, mut clusters) = (0usize, 0usize);
+        for head in 0..self.masks.pages.len() {
+            let (chain, map) = self.claims_at(head);
+            pages = pages.wrapping_add(chain);
+            clusters = clusters.wrapping_add(map);
+        }
+        (pages, clusters)
+    }
+
     /// Expects that the masks are what the chains and maps claim, without those of blobs that recovery removes, beside
     /// so many clusters that the store takes itself.
     pub fn expect_claimed(&self, state: &State, fixed: u32) -> Result<(), Fail> {
-        let (mut pages, mut clusters) = (0usize, fixed as usize);
-        for head in 0..self.masks.pages.len() {
-            if let (Some(meta), Some(chain)) = (self.metas.get(head), self.chains.get(head)) {
-                pages = pages.wrapping_add(chain.len());
-                clusters = clusters.wrapping_add(meta.map.as_slice().iter().flatten().count());
-            }
-        }
+        let (pages, clusters) = self.claims();
+        let wanted = (pages, clusters.wrapping_add(fixed as usize));
         let found = (
             self.masks.pages.count() as usize,
             self.masks.clusters.count() as usize,
         );
-        if found != (pages, clusters) || state.used_pages.len() != self.masks.pages.len() as usize {
-            return Err(Fail::new(format_args!(
-                "the masks have {found:?}, the chains {pages} {clusters}"
-            )));
+        if found != wanted || state.used_pages.len() != self.masks.pages.len() as usize {
+            return Err(Fail::new(format_args!("the masks have {found:?}, the chains {wanted:?}")));
         }
         Ok(())
     }
@@ -247,28 +276,24 @@ impl Shown {
         expect_marks(&self.masks.clusters, &state.used_clusters)
     }
 
+    /// Whether a volume's chain stands at these places.
+    fn has_chain(&self, places: &[u32]) -> bool {
+        let Some(head) = places.first() else {
+            return false;
+        };
+        match self.chains.get(*head) {
+            Some(found) => found.as_slice() == places,
+            None => false,
+        }
+    }
+
     /// Expects that each volume's chain stands at the places of the state.
     pub fn expect_chains(&self, state: &State) -> Result<(), Fail> {
         for volume in &state.volumes {
-            let places = volume.head().and_then(|head| self.chains.get(head));
-            let is_there = match places {
-                Some(places) => places.as_slice() == volume.chain.as_slice(),
-                None => false,
-            };
-            if !is_there {
+            if !self.has_chain(&volume.chain) {
                 return Err(Fail::new(format_args!("another chain than {:?}", volume.chain)));
             }
         }
         Ok(())
     }
-}
-
-/// Expects that the marks are those of a mask.
-fn expect_marks(mask: &Bits, marks: &[bool]) -> Result<(), Fail> {
-    for (place, is_set) in (0..mask.len()).zip(marks.iter()) {
-        if (place < mask.len() && mask.get(place)) != *is_set {
-            return Err(Fail::new(format_args!("place {place} is in use: {}", !is_set)));
-        }
-    }
-    Ok(())
 }

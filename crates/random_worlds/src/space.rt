@@ -58,16 +58,19 @@ fn create(
     Ok(None)
 }
 
+/// Clears the clusters of a map behind so many slots.
+fn give_back_behind(clusters: &mut [bool], map: &[Option<u32>], slots: usize) {
+    for slot in map.iter().skip(slots) {
+        if let Some(cluster) = slot {
+            give_back(clusters, *cluster);
+        }
+    }
+}
+
 /// Cuts a volume's map to so many slots: the clusters of the others are clear.
 fn cut(next: &mut State, name: u8, slots: usize) -> Result<(), Fail> {
     let volume = named(&next.volumes, name)?;
-    for (at, slot) in volume.map.iter().enumerate() {
-        if let Some(cluster) = slot {
-            if at >= slots {
-                give_back(&mut next.used_clusters, *cluster);
-            }
-        }
-    }
+    give_back_behind(&mut next.used_clusters, &volume.map, slots);
     next.find_mut(name)?.map.truncate(slots);
     Ok(())
 }

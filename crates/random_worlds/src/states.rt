@@ -195,6 +195,12 @@ impl State {
         Ok(())
     }
 
+    /// Gives a volume's chain these places behind its head, and clears its old ones.
+    pub fn replace_tail(&mut self, name: u8, tail: &[u32]) -> Result<(), Fail> {
+        self.clear_tail(name)?;
+        self.set_tail(name, tail)
+    }
+
     /// Puts a cluster into a slot of a volume, or empties it.
     pub fn set_slot(&mut self, name: u8, slot: usize, cluster: Option<u32>) -> Result<(), Fail> {
         let volume = self.find_mut(name)?;

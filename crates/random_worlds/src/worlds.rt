@@ -223,17 +223,21 @@ fn number_told(digits: &[u8]) -> Result<u32, Fail> {
     Ok(u32::try_from(number).unwrap_or(u32::MAX))
 }
 
-/// The lack that a line tells, if what is asked for may meet it.
-fn lack_told(ask: &Ask, told: &[u8]) -> Option<Lack> {
-    let takes_clusters = matches!(
+/// Whether what is asked for may take clusters.
+fn takes_clusters(ask: &Ask) -> bool {
+    matches!(
         ask,
         Ask::Create { .. }
             | Ask::Resize { .. }
             | Ask::Write { .. }
             | Ask::Inflate { .. }
             | Ask::Decouple { .. }
-    );
-    let takes_pages = takes_clusters
+    )
+}
+
+/// Whether what is asked for may take metadata pages.
+fn takes_pages(ask: &Ask) -> bool {
+    takes_clusters(ask)
         || ask.makes()
         || matches!(
             ask,
@@ -242,10 +246,14 @@ fn lack_told(ask: &Ask, told: &[u8]) -> Option<Lack> {
                 | Ask::Rename { .. }
                 | Ask::Delete { .. }
                 | Ask::ReadOnly { .. }
-        );
+        )
+}
+
+/// The lack that a line tells, if what is asked for may meet it.
+fn lack_told(ask: &Ask, told: &[u8]) -> Option<Lack> {
     match told {
-        b"full" if takes_clusters => Some(Lack::Clusters),
-        b"no page" if takes_pages => Some(Lack::Pages),
+        b"full" if takes_clusters(ask) => Some(Lack::Clusters),
+        b"no page" if takes_pages(ask) => Some(Lack::Pages),
         _ => None,
     }
 }

@@ -3,10 +3,11 @@
 ghost use Rattle.lvol_store.specs.CopyPlans.{IsSnapshot};
 ghost use Rattle.lvol_store.specs.DeletePlans.{IsDelete};
 
-use crate::plan_tests::{sup, volume};
-use crate::slot_plan_tests::{metas, told_whole};
+use crate::plan_stores::{Store, store_of_five, told_whole};
+use crate::plan_tests::{name_of, volume};
 use crate::told::expect;
-use lvol_store::{check_name, plan_delete, plan_snapshot};
+use lvol_store::{plan_delete, plan_snapshot};
+use std::alloc::Global;
 use std::test::Fail;
 use volume_model::{Command, Name, VolumeRef};
 
@@ -22,12 +23,33 @@ fn delete(volume: VolumeRef) -> Command
     Command::Delete { volume }
 }
 
+fn snapshot_told(
+    alloc: Global,
+    store: &Store,
+    (head, of): (u32, &[u8]),
+    name: &[u8],
+) -> Result<Vec<u8>, Fail> {
+    let name = name_of(name)?;
+    let command = snapshot(volume(head, of), name);
+    told_whole(
+        alloc,
+        &plan_snapshot(alloc, &store.metas, &store.sup, &command, 9),
+    )
+}
+
+fn delete_told(alloc: Global, store: &Store, volume: VolumeRef) -> Result<Vec<u8>, Fail> {
+    let command = delete(volume);
+    told_whole(
+        alloc,
+        &plan_delete(alloc, &store.metas, &store.sup, &command),
+    )
+}
+
 /// Each of the four replacements, with its attributes, and then their flags and slots.
 #[test]
 fn snapshots_are_planned_or_refused(rt: HostRuntime) -> Result<(), Fail> {
     let alloc = rt.alloc();
-    let metas = metas(alloc)?;
-    let sup = sup()?;
+    let store = store_of_five(alloc)?;
     let cases: &[(u32, &[u8], &[u8], &[u8])] = &[
         (
             0,
@@ -57,11 +79,8 @@ fn snapshots_are_planned_or_refused(rt: HostRuntime) -> Result<(), Fail> {
         (0, b"thin", b"thin", b"NameTaken"),
     ];
     for (head, of, name, wanted) in cases {
-        let Ok(name) = check_name(name) else {
-            continue;
-        };
-        let plan = plan_snapshot(alloc, &metas, &sup, &snapshot(volume(*head, of), name), 9);
-        expect(&rt, &told_whole(alloc, &plan)?, wanted);
+        let told = snapshot_told(alloc, &store, (*head, of), name)?;
+        expect(&rt, &told, wanted);
     }
     Ok(())
 }
@@ -70,8 +89,7 @@ fn snapshots_are_planned_or_refused(rt: HostRuntime) -> Result<(), Fail> {
 #[test]
 fn deletes_are_planned_or_refused(rt: HostRuntime) -> Result<(), Fail> {
     let alloc = rt.alloc();
-    let metas = metas(alloc)?;
-    let sup = sup()?;
+    let store = store_of_five(alloc)?;
     let cases: &[(u32, &[u8], &[u8])] = &[
         (0, b"thin", b"5 zero"),
         (7, b"", b"7 zero"),
@@ -86,8 +104,8 @@ fn deletes_are_planned_or_refused(rt: HostRuntime) -> Result<(), Fail> {
         (2, b"", b"Reserved"),
     ];
     for (head, name, wanted) in cases {
-        let plan = plan_delete(alloc, &metas, &sup, &delete(volume(*head, name)));
-        expect(&rt, &told_whole(alloc, &plan)?, wanted);
+        let told = delete_told(alloc, &store, volume(*head, name))?;
+        expect(&rt, &told, wanted);
     }
     Ok(())
 }

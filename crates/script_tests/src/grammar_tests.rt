@@ -250,24 +250,44 @@ fn bad_channels_and_forms(rt: HostRuntime) -> Result<(), Fail> {
     compare(&rt, rt.alloc(), cases)
 }
 
+/// The bytes of all three.
+fn joined(alloc: Global, front: &[u8], word: &[u8], end: &[u8]) -> Result<Vec<u8>, Fail> {
+    let mut line = Vec::new(alloc);
+    for part in &[front, word, end] {
+        line.extend_from_slice(part)?;
+    }
+    Ok(line)
+}
+
+/// What a line that ends with a word is as a script.
+fn line_told(alloc: Global, front: &[u8], word: &[u8]) -> Result<Vec<u8>, Fail> {
+    let line = joined(alloc, front, word, b"")?;
+    told(alloc, &line)
+}
+
+const LONGEST_KEY: [u8; 255] = [b'k'; 255];
+
+const TOO_LONG_KEY: [u8; 256] = [b'k'; 256];
+
 /// A name of 63 bytes and a key of 255 are taken; one byte more is not.
 #[test]
 fn names_and_keys_have_their_lengths(rt: HostRuntime) -> Result<(), Fail> {
     let alloc = rt.alloc();
     let name = b"abcdefghijklmnopqrstuvwxyz0123456789abcdefghijklmnopqrstuvwxyz!".as_slice();
-    let key = vec![in alloc; b'k'; 256]?;
     let cases: &[(&[u8], &[u8], &[u8])] = &[
         (b"0 sync ", name, b""),
         (b"0 sync x", name, b"1 Volume"),
-        (b"0 getx @0 ", &key.as_slice()[1..], b""),
-        (b"0 getx @0 ", key.as_slice(), b"1 KeyValue"),
+        (b"0 getx @0 ", &LONGEST_KEY, b""),
+        (b"0 getx @0 ", &TOO_LONG_KEY, b"1 KeyValue"),
     ];
     for (front, word, wanted) in cases {
-        let mut line = front.to_vec(alloc)?;
-        line.extend_from_slice(word)?;
-        let said = told(alloc, &line)?;
-        line.push(b';')?;
-        expect(&rt, &said, if wanted.is_empty() { &line } else { wanted });
+        let whole = joined(alloc, front, word, b";")?;
+        let wanted = if wanted.is_empty() {
+            whole.as_slice()
+        } else {
+            *wanted
+        };
+        expect(&rt, &line_told(alloc, front, word)?, wanted);
     }
     Ok(())
 }

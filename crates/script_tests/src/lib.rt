@@ -1,7 +1,9 @@
 //! Tests of scripts, schedules and generated scripts, of plans on logical volumes and of printed lines, over public
-//! calls alone.
+//! calls alone; of texts that are read and printed; and of the commands that words spell, and what is said of others.
 #![tactic(auto)]
 
+#[cfg(test)]
+mod commands;
 #[cfg(test)]
 mod family_plan_tests;
 #[cfg(test)]
@@ -9,7 +11,11 @@ mod generator_tests;
 #[cfg(test)]
 mod grammar_tests;
 #[cfg(test)]
+mod help_texts;
+#[cfg(test)]
 mod limit_tests;
+#[cfg(test)]
+mod plan_stores;
 #[cfg(test)]
 mod plan_tests;
 #[cfg(test)]
@@ -20,6 +26,10 @@ mod report_tests;
 mod schedule_tests;
 #[cfg(test)]
 mod slot_plan_tests;
+#[cfg(test)]
+mod split_words;
+#[cfg(test)]
+mod stream_texts;
 #[cfg(test)]
 mod told;
 #[cfg(test)]

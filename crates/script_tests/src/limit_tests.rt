@@ -15,6 +15,18 @@ fn long_text(alloc: Global, lines: u32, line: &[u8], end: &[u8]) -> Result<Vec<u
     Ok(text)
 }
 
+/// What such a text is as a script.
+fn long_told(alloc: Global, lines: u32, line: &[u8], end: &[u8]) -> Result<Vec<u8>, Fail> {
+    let text = long_text(alloc, lines, line, end)?;
+    told(alloc, &text)
+}
+
+/// How many channels a text has as a script, and how many commands one of them.
+fn counts(alloc: Global, text: &[u8], channel: u8) -> Result<(u8, usize), Fail> {
+    let script = parse(alloc, text)?;
+    Ok((script.channels(), script.commands(channel).len()))
+}
+
 /// How many times a line, the line, the end, and what the text is; nothing where its commands have no text.
 #[test]
 fn one_line_one_page_or_one_byte_too_many(rt: HostRuntime) -> Result<(), Fail> {
@@ -36,21 +48,23 @@ fn one_line_one_page_or_one_byte_too_many(rt: HostRuntime) -> Result<(), Fail> {
         (1048577, b"#", b"", b"too big"),
     ];
     for (lines, line, end, wanted) in cases {
-        let text = long_text(alloc, *lines, line, end)?;
-        expect(&rt, &told(alloc, text.as_slice())?, wanted);
+        expect(&rt, &long_told(alloc, *lines, line, end)?, wanted);
     }
     Ok(())
 }
 
+/// How many times a line, the line, the end, a channel, and how many channels there are and commands in this one.
 #[test]
 fn the_most_pages_and_the_most_commands(rt: HostRuntime) -> Result<(), Fail> {
     let alloc = rt.alloc();
-    let pages = long_text(alloc, 256, b"3 read v 0 256\n", b"3 flush\n")?;
-    let script = parse(alloc, pages.as_slice())?;
-    assert_eq!(rt; script.commands(3).len(), 65537);
-    assert_eq!(rt; script.channels(), 4);
-    let lines = long_text(alloc, 65536, b"0 sync @0\n", b"")?;
-    assert_eq!(rt; parse(alloc, lines.as_slice())?.commands(0).len(), 65536);
-    assert_eq!(rt; parse(alloc, b"")?.channels(), 0);
+    let cases: &[(u32, &[u8], &[u8], u8, (u8, usize))] = &[
+        (256, b"3 read v 0 256\n", b"3 flush\n", 3, (4, 65537)),
+        (65536, b"0 sync @0\n", b"", 0, (1, 65536)),
+        (0, b"", b"", 0, (0, 0)),
+    ];
+    for (lines, line, end, channel, wanted) in cases {
+        let text = long_text(alloc, *lines, line, end)?;
+        assert_eq!(rt; counts(alloc, &text, *channel)?, *wanted);
+    }
     Ok(())
 }

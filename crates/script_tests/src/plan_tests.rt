@@ -11,7 +11,7 @@ use out_of_memory::Memory;
 use std::alloc::Global;
 use std::test::Fail;
 use super_block::{Layout, Super, SuperFault};
-use volume_model::{Blobtext, Command, Reply, VolumeRef, Xattr, XattrList};
+use volume_model::{Blobtext, Command, Name, Reply, VolumeRef, Xattr, XattrList};
 
 fn blob(alloc: Global, head: u32, name: &[u8], data_ro: u64) -> Result<Meta, Memory> {
     Ok(Meta {
@@ -49,6 +49,10 @@ fn read_only(volume: VolumeRef) -> Command
     Command::ReadOnly { volume }
 }
 
+pub(crate) fn name_of(bytes: &[u8]) -> Result<Name, Fail> {
+    Ok(check_name(bytes)?)
+}
+
 /// The volume of a name, or the one at a head where the name is empty.
 pub(crate) fn volume(head: u32, name: &[u8]) -> VolumeRef {
     match check_name(name) {
@@ -59,14 +63,16 @@ pub(crate) fn volume(head: u32, name: &[u8]) -> VolumeRef {
 
 /// The attributes that a plan gives its blob, one a line, with the head first, or the reply.
 pub(crate) fn told(alloc: Global, plan: &Result<Job, Reply>) -> Result<Vec<u8>, Fail> {
-    let mut text = Vec::new(alloc);
     match plan {
-        Err(reply) => text.extend_from_slice(format!(in alloc; "{reply:?}")?.as_bytes())?,
-        Ok(job) => {
-            for replacement in job.list.as_slice() {
-                push_replacement(&mut text, alloc, replacement)?;
-            }
-        }
+        Err(reply) => Ok(format!(in alloc; "{reply:?}")?.into_bytes()),
+        Ok(job) => job_told(alloc, job),
+    }
+}
+
+fn job_told(alloc: Global, job: &Job) -> Result<Vec<u8>, Fail> {
+    let mut text = Vec::new(alloc);
+    for replacement in job.list.as_slice() {
+        push_replacement(&mut text, alloc, replacement)?;
     }
     Ok(text)
 }
@@ -98,12 +104,23 @@ fn push_xattrs(text: &mut Vec<u8>, xattrs: &XattrList) -> Result<(), Fail> {
     Ok(())
 }
 
+fn insert(
+    metas: &mut Metas,
+    alloc: Global,
+    head: u32,
+    name: &[u8],
+    data_ro: u64,
+) -> Result<(), Memory> {
+    metas.insert(head, blob(alloc, head, name, data_ro)?)?;
+    Ok(())
+}
+
 /// The super blob at 2, a blob that can be written at 5, and a read-only one at 6.
 fn metas(alloc: Global) -> Result<Metas, Memory> {
     let mut metas = Metas::new(alloc);
     let blobs: &[(u32, &[u8], u64)] = &[(2, b"store\0", 0), (5, b"open\0", 0), (6, b"fixed\0", 1)];
     for (head, name, data_ro) in blobs {
-        metas.insert(*head, blob(alloc, *head, name, *data_ro)?)?;
+        insert(&mut metas, alloc, *head, name, *data_ro)?;
     }
     Ok(metas)
 }
@@ -118,38 +135,84 @@ fn live(alloc: Global) -> Result<XattrList, Memory> {
     XattrList::new(alloc).with_value(alloc, b"owner", b"me")
 }
 
-fn planned_put(alloc: Global, metas: &Metas, command: &Command) -> Result<Result<Job, Reply>, Fail>
+/// The super block, the metadata, and the live attributes of each blob.
+struct Store {
+    sup: Super,
+    metas: Metas,
+    live: XattrList,
+}
+
+// By hand: to let a store go is one call then, at each place where control leaves.
+impl Drop for Store {
+    fn drop(self) {
+        let Store {
+            sup: _,
+            metas: _,
+            live: _,
+        } = self;
+    }
+}
+
+fn store_of_three(alloc: Global) -> Result<Store, Fail> {
+    let sup = sup()?;
+    let metas = metas(alloc)?;
+    Ok(Store {
+        sup,
+        metas,
+        live: live(alloc)?,
+    })
+}
+
+fn planned_put(alloc: Global, store: &Store, command: &Command) -> Result<Job, Reply>
     requires { IsPut command.now }
 {
-    let (live, sup) = (live(alloc)?, sup()?);
-    match find(metas, &sup, asked_volume(command)) {
-        Some(_) => Ok(plan_put(alloc, metas, &sup, command, 9, Some(&live))),
-        None => Ok(plan_put(alloc, metas, &sup, command, 9, None)),
+    let (metas, sup) = (&store.metas, &store.sup);
+    match find(metas, sup, asked_volume(command)) {
+        Some(_) => plan_put(alloc, metas, sup, command, 9, Some(&store.live)),
+        None => plan_put(alloc, metas, sup, command, 9, None),
     }
 }
 
-fn planned_sync(alloc: Global, metas: &Metas, command: &Command) -> Result<Result<Job, Reply>, Fail>
+fn planned_sync(alloc: Global, store: &Store, command: &Command) -> Result<Job, Reply>
     requires { IsSync command.now }
 {
-    let (live, sup) = (live(alloc)?, sup()?);
-    match find(metas, &sup, asked_volume(command)) {
-        Some(_) => Ok(plan_sync(alloc, metas, &sup, command, 9, Some(&live))),
-        None => Ok(plan_sync(alloc, metas, &sup, command, 9, None)),
+    let (metas, sup) = (&store.metas, &store.sup);
+    match find(metas, sup, asked_volume(command)) {
+        Some(_) => plan_sync(alloc, metas, sup, command, 9, Some(&store.live)),
+        None => plan_sync(alloc, metas, sup, command, 9, None),
     }
 }
 
-fn planned_read_only(
-    alloc: Global,
-    metas: &Metas,
-    command: &Command,
-) -> Result<Result<Job, Reply>, Fail>
+fn planned_read_only(alloc: Global, store: &Store, command: &Command) -> Result<Job, Reply>
     requires { IsReadOnlyCommand command.now }
 {
-    let (live, sup) = (live(alloc)?, sup()?);
-    match find(metas, &sup, asked_volume(command)) {
-        Some(_) => Ok(plan_readonly(alloc, metas, &sup, command, 9, Some(&live))),
-        None => Ok(plan_readonly(alloc, metas, &sup, command, 9, None)),
+    let (metas, sup) = (&store.metas, &store.sup);
+    match find(metas, sup, asked_volume(command)) {
+        Some(_) => plan_readonly(alloc, metas, sup, command, 9, Some(&store.live)),
+        None => plan_readonly(alloc, metas, sup, command, 9, None),
     }
+}
+
+/// A key and its value are put to a volume.
+fn put_told(
+    alloc: Global,
+    store: &Store,
+    volume: VolumeRef,
+    key: &[u8],
+    value: &[u8],
+) -> Result<Vec<u8>, Fail> {
+    let command = put(alloc, volume, key, value)?;
+    told(alloc, &planned_put(alloc, store, &command))
+}
+
+fn sync_told(alloc: Global, store: &Store, volume: VolumeRef) -> Result<Vec<u8>, Fail> {
+    told(alloc, &planned_sync(alloc, store, &sync(volume)))
+}
+
+/// What a plan to make a volume read-only tells, and the flag `data_ro` of its blob.
+fn read_only_told(alloc: Global, store: &Store, volume: VolumeRef) -> Result<(Vec<u8>, u64), Fail> {
+    let plan = planned_read_only(alloc, store, &read_only(volume));
+    Ok((told(alloc, &plan)?, data_ro(&plan)))
 }
 
 /// The flag `data_ro` of what a plan replaces, or 0 where it is refused.
@@ -166,11 +229,13 @@ fn data_ro(plan: &Result<Job, Reply>) -> u64 {
     }
 }
 
+/// One byte more than a value of the key `color` may have.
+const LONG: [u8; 4059] = [b'a'; 4059];
+
 #[test]
 fn puts_are_planned_or_refused(rt: HostRuntime) -> Result<(), Fail> {
     let alloc = rt.alloc();
-    let metas = metas(alloc)?;
-    let long = [b'a'; 4059];
+    let store = store_of_three(alloc)?;
     let cases: &[(u32, &[u8], &[u8], &[u8], &[u8])] = &[
         (5, b"", b"color", b"red", b"5 owner=me color=red"),
         (0, b"open", b"owner", b"you", b"5 owner=you"),
@@ -179,12 +244,11 @@ fn puts_are_planned_or_refused(rt: HostRuntime) -> Result<(), Fail> {
         (2, b"", b"color", b"red", b"Reserved"),
         (5, b"", b"uuid", b"red", b"Reserved"),
         (0, b"fixed", b"color", b"red", b"ReadOnly"),
-        (5, b"", b"color", &long, b"TooLong"),
+        (5, b"", b"color", &LONG, b"TooLong"),
     ];
     for (head, name, key, value, wanted) in cases {
-        let command = put(alloc, volume(*head, name), key, value)?;
-        let plan = planned_put(alloc, &metas, &command)?;
-        expect(&rt, &told(alloc, &plan)?, wanted);
+        let told = put_told(alloc, &store, volume(*head, name), key, value)?;
+        expect(&rt, &told, wanted);
     }
     Ok(())
 }
@@ -192,7 +256,7 @@ fn puts_are_planned_or_refused(rt: HostRuntime) -> Result<(), Fail> {
 #[test]
 fn syncs_are_planned_or_refused(rt: HostRuntime) -> Result<(), Fail> {
     let alloc = rt.alloc();
-    let metas = metas(alloc)?;
+    let store = store_of_three(alloc)?;
     let cases: &[(u32, &[u8], &[u8])] = &[
         (5, b"", b"5 owner=me"),
         (0, b"open", b"5 owner=me"),
@@ -201,8 +265,8 @@ fn syncs_are_planned_or_refused(rt: HostRuntime) -> Result<(), Fail> {
         (6, b"", b"ReadOnly"),
     ];
     for (head, name, wanted) in cases {
-        let plan = planned_sync(alloc, &metas, &sync(volume(*head, name)))?;
-        expect(&rt, &told(alloc, &plan)?, wanted);
+        let told = sync_told(alloc, &store, volume(*head, name))?;
+        expect(&rt, &told, wanted);
     }
     Ok(())
 }
@@ -210,7 +274,7 @@ fn syncs_are_planned_or_refused(rt: HostRuntime) -> Result<(), Fail> {
 #[test]
 fn volumes_are_planned_read_only_or_refused(rt: HostRuntime) -> Result<(), Fail> {
     let alloc = rt.alloc();
-    let metas = metas(alloc)?;
+    let store = store_of_three(alloc)?;
     let cases: &[(u32, &[u8], &[u8], u64)] = &[
         (5, b"", b"5 owner=me", 1),
         (0, b"open", b"5 owner=me", 1),
@@ -219,9 +283,9 @@ fn volumes_are_planned_read_only_or_refused(rt: HostRuntime) -> Result<(), Fail>
         (6, b"", b"ReadOnly", 0),
     ];
     for (head, name, wanted, flag) in cases {
-        let plan = planned_read_only(alloc, &metas, &read_only(volume(*head, name)))?;
-        assert_eq!(rt; data_ro(&plan), *flag);
-        expect(&rt, &told(alloc, &plan)?, wanted);
+        let (told, data_ro) = read_only_told(alloc, &store, volume(*head, name))?;
+        assert_eq!(rt; data_ro, *flag);
+        expect(&rt, &told, wanted);
     }
     Ok(())
 }

@@ -2,10 +2,11 @@
 
 ghost use Rattle.lvol_store.specs.RenamePlans.{IsRename};
 
-use crate::plan_tests::{sup, volume};
-use crate::slot_plan_tests::{metas, told_whole};
+use crate::plan_stores::{Store, store_of_five, told_whole};
+use crate::plan_tests::{name_of, volume};
 use crate::told::expect;
-use lvol_store::{check_name, plan_rename};
+use lvol_store::plan_rename;
+use std::alloc::Global;
 use std::test::Fail;
 use volume_model::{Command, Name, VolumeRef};
 
@@ -15,11 +16,24 @@ fn rename(volume: VolumeRef, name: Name) -> Command
     Command::Rename { volume, name }
 }
 
+fn rename_told(
+    alloc: Global,
+    store: &Store,
+    (head, of): (u32, &[u8]),
+    name: &[u8],
+) -> Result<Vec<u8>, Fail> {
+    let name = name_of(name)?;
+    let command = rename(volume(head, of), name);
+    told_whole(
+        alloc,
+        &plan_rename(alloc, &store.metas, &store.sup, &command, 9),
+    )
+}
+
 #[test]
 fn renames_are_planned_or_refused(rt: HostRuntime) -> Result<(), Fail> {
     let alloc = rt.alloc();
-    let metas = metas(alloc)?;
-    let sup = sup()?;
+    let store = store_of_five(alloc)?;
     let cases: &[(u32, &[u8], &[u8], &[u8])] = &[
         (0, b"thin", b"w", b"5 name=w\0 flags 1 slots - - - zero"),
         (7, b"", b"longer", b"7 name=longer\0 flags 0 slots 5 6 zero"),
@@ -39,11 +53,8 @@ fn renames_are_planned_or_refused(rt: HostRuntime) -> Result<(), Fail> {
         (0, b"thin", b"thin", b"NameTaken"),
     ];
     for (head, of, name, wanted) in cases {
-        let Ok(name) = check_name(name) else {
-            continue;
-        };
-        let plan = plan_rename(alloc, &metas, &sup, &rename(volume(*head, of), name), 9);
-        expect(&rt, &told_whole(alloc, &plan)?, wanted);
+        let told = rename_told(alloc, &store, (*head, of), name)?;
+        expect(&rt, &told, wanted);
     }
     Ok(())
 }

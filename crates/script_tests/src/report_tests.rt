@@ -21,16 +21,20 @@ fn info(alloc: Global, name: &[u8], parent: Option<u32>, thin: bool) -> Result<I
     })
 }
 
-/// The line of an entry with this reply.
-fn line(alloc: Global, channel: u8, index: u32, reply: Reply) -> Result<Vec<u8>, Memory> {
-    let mut line = Vec::new(alloc);
+/// Appends the line of an entry with this reply.
+fn push_line(line: &mut Vec<u8>, channel: u8, index: u32, reply: Reply) -> Result<(), Memory> {
     let entry = Entry {
         channel,
         index,
         command: Command::Flush,
         reply,
     };
-    render_entry(&entry, &mut line)?;
+    render_entry(&entry, line)
+}
+
+fn line(alloc: Global, channel: u8, index: u32, reply: Reply) -> Result<Vec<u8>, Memory> {
+    let mut line = Vec::new(alloc);
+    push_line(&mut line, channel, index, reply)?;
     Ok(line)
 }
 
@@ -46,8 +50,20 @@ fn expect_line(
     Ok(())
 }
 
+/// Expects that this is the line of an entry that tells a value.
+fn expect_value(
+    rt: &impl Abort,
+    alloc: Global,
+    index: u32,
+    value: &[u8],
+    wanted: &[u8],
+) -> Result<(), Memory> {
+    let reply = Reply::Value(Blobtext::new(alloc, value)?);
+    expect_line(rt, alloc, (0, index), reply, wanted)
+}
+
 #[test]
-fn each_reply_has_its_text(rt: HostRuntime) -> Result<(), Fail> {
+fn each_value_has_its_text(rt: HostRuntime) -> Result<(), Fail> {
     let a = rt.alloc();
     let df = Reply::Df(Df {
         free_clusters: 5,
@@ -62,10 +78,14 @@ fn each_reply_has_its_text(rt: HostRuntime) -> Result<(), Fail> {
         df,
         b"0 3 df clusters 5 of 60 pages 7 of 800\n",
     )?;
-    let value = Reply::Value(Blobtext::new(a, b"\x00bO\xff")?);
-    expect_line(&rt, a, (0, 1), value, b"0 1 value 00624fff\n")?;
-    let empty = Reply::Value(Blobtext::new(a, b"")?);
-    expect_line(&rt, a, (0, 2), empty, b"0 2 value -\n")?;
+    expect_value(&rt, a, 1, b"\x00bO\xff", b"0 1 value 00624fff\n")?;
+    expect_value(&rt, a, 2, b"", b"0 2 value -\n")?;
+    Ok(())
+}
+
+#[test]
+fn each_reply_has_its_text(rt: HostRuntime) -> Result<(), Fail> {
+    let a = rt.alloc();
     expect_line(&rt, a, (0, 0), Reply::Ok, b"0 0 ok\n")?;
     expect_line(&rt, a, (15, 10), Reply::Made(12), b"15 10 ok @12\n")?;
     expect_line(&rt, a, (0, 4), Reply::NoVolume, b"0 4 no volume\n")?;
@@ -84,13 +104,13 @@ fn each_reply_has_its_text(rt: HostRuntime) -> Result<(), Fail> {
 
 #[test]
 fn a_line_follows_what_was_there(rt: HostRuntime) -> Result<(), Fail> {
-    let mut text = line(rt.alloc(), 0, 0, Reply::NoValue)?;
     let space = Df {
         free_clusters: 9,
         clusters: 12,
         free_pages: 3,
         pages: 4,
     };
+    let mut text = line(rt.alloc(), 0, 0, Reply::NoValue)?;
     space_line(space, &mut text)?;
     expect(
         &rt,
@@ -100,23 +120,37 @@ fn a_line_follows_what_was_there(rt: HostRuntime) -> Result<(), Fail> {
     Ok(())
 }
 
+fn push_info(
+    infos: &mut InfoList,
+    alloc: Global,
+    name: &[u8],
+    parent: Option<u32>,
+    thin: bool,
+) -> Result<(), Memory> {
+    infos.push(info(alloc, name, parent, thin)?)
+}
+
 /// A reply that tells two volumes.
 fn two_volumes(alloc: Global) -> Result<Reply, Memory> {
     let mut infos = InfoList::new(alloc);
-    infos.push(info(alloc, b"-", Some(9), false)?)?;
-    infos.push(info(alloc, b"", None, true)?)?;
+    push_info(&mut infos, alloc, b"-", Some(9), false)?;
+    push_info(&mut infos, alloc, b"", None, true)?;
     Ok(Reply::List(infos))
+}
+
+/// A reply that tells one volume.
+fn one_volume(alloc: Global) -> Result<Reply, Memory> {
+    Ok(Reply::Info(info(alloc, b"a b\\\xff~", None, true)?))
 }
 
 #[test]
 fn volumes_are_told_line_by_line(rt: HostRuntime) -> Result<(), Fail> {
     let a = rt.alloc();
-    let one = Reply::Info(info(a, b"a b\\\xff~", None, true)?);
     expect_line(
         &rt,
         a,
         (1, 0),
-        one,
+        one_volume(a)?,
         b"1 0 volume @3 a\\x20b\\x5c\\xff~ slots 1099511627776 parent - thin rw xattrs 2\n",
     )?;
     expect_line(

@@ -7,26 +7,37 @@ use std::test::Fail;
 
 /// Appends what takes a step, and a space.
 fn push_actor(text: &mut Vec<u8>, alloc: Global, actor: &Actor) -> Result<(), Fail> {
-    match actor {
-        Actor::Channel(channel) => {
-            text.extend_from_slice(format!(in alloc; "{channel} ")?.as_bytes())?;
+    let step = match actor {
+        Actor::Channel(channel) => format!(in alloc; "{channel} ")?,
+        Actor::Metadata => format!(in alloc; "m ")?,
+    };
+    text.extend_from_slice(step.as_bytes())?;
+    Ok(())
+}
+
+/// Appends the steps of a schedule, a space after each.
+fn push_steps(text: &mut Vec<u8>, alloc: Global, schedule: &Schedule) -> Result<(), Fail> {
+    for part in schedule.parts() {
+        for _ in 0..part.count {
+            for actor in part.actors.as_slice() {
+                push_actor(text, alloc, actor)?;
+            }
         }
-        Actor::Metadata => text.extend_from_slice(b"m ")?,
     }
     Ok(())
 }
 
-/// The steps of a schedule written out, a space after each.
-fn steps(alloc: Global, schedule: &Schedule) -> Result<Vec<u8>, Fail> {
-    let mut text = Vec::new(alloc);
-    for part in schedule.parts() {
-        for _ in 0..part.count {
-            for actor in part.actors.as_slice() {
-                push_actor(&mut text, alloc, actor)?;
-            }
-        }
-    }
-    Ok(text)
+/// The steps of the schedule that a text is.
+fn steps(alloc: Global, text: &[u8]) -> Result<Vec<u8>, Fail> {
+    let schedule = parse_schedule(alloc, text)?;
+    let mut steps = Vec::new(alloc);
+    push_steps(&mut steps, alloc, &schedule)?;
+    Ok(steps)
+}
+
+/// How many steps the schedule has that a text is.
+fn length(alloc: Global, text: &[u8]) -> Result<u32, Fail> {
+    Ok(parse_schedule(alloc, text)?.len())
 }
 
 #[test]
@@ -45,8 +56,7 @@ fn good_schedules(rt: HostRuntime) -> Result<(), Fail> {
         (b"1*10,11", b"1 1 1 1 1 1 1 1 1 1 11 "),
     ];
     for (text, wanted) in cases {
-        let schedule = parse_schedule(alloc, text)?;
-        expect(&rt, &steps(alloc, &schedule)?, wanted);
+        expect(&rt, &steps(alloc, text)?, wanted);
     }
     Ok(())
 }
@@ -62,7 +72,7 @@ fn the_most_steps(rt: HostRuntime) -> Result<(), Fail> {
         (b"0*6,1+m*200", 406),
     ];
     for (text, wanted) in cases {
-        assert_eq!(rt; parse_schedule(alloc, text)?.len(), *wanted);
+        assert_eq!(rt; length(alloc, text)?, *wanted);
     }
     Ok(())
 }

@@ -1,6 +1,5 @@
 //! Scripts as texts, to compare them.
 
-use out_of_memory::Memory;
 use script_lang::{ScriptFault, parse};
 use std::alloc::Global;
 use std::process::Abort;
@@ -17,26 +16,46 @@ fn push_number(into: &mut Vec<u8>, alloc: Global, number: u64) -> Result<(), Fai
     Ok(())
 }
 
-fn push_word(into: &mut Vec<u8>, word: &[u8]) -> Result<(), Memory> {
+fn push_word(into: &mut Vec<u8>, word: &[u8]) -> Result<(), Fail> {
     into.push(b' ')?;
     into.extend_from_slice(word)?;
     Ok(())
+}
+
+fn push_two_words(into: &mut Vec<u8>, first: &[u8], second: &[u8]) -> Result<(), Fail> {
+    push_word(into, first)?;
+    push_word(into, second)
 }
 
 fn push_volume(into: &mut Vec<u8>, alloc: Global, volume: &VolumeRef) -> Result<(), Fail> {
     match volume {
         VolumeRef::Head(head) => {
             into.extend_from_slice(format!(in alloc; " @{head}")?.as_bytes())?;
+            Ok(())
         }
-        VolumeRef::Named(name) => push_word(into, name.bytes())?,
+        VolumeRef::Named(name) => push_word(into, name.bytes()),
     }
+}
+
+fn push_digits(into: &mut Vec<u8>, alloc: Global, byte: u8) -> Result<(), Fail> {
+    into.extend_from_slice(format!(in alloc; "{byte:02x}")?.as_bytes())?;
     Ok(())
 }
 
-fn push_uuid(into: &mut Vec<u8>, alloc: Global, uuid: [u8; 16]) -> Result<(), Fail> {
+/// Whether a new volume is thick, and its uuid, if one is given.
+fn push_kind(
+    into: &mut Vec<u8>,
+    alloc: Global,
+    thick: bool,
+    uuid: &Option<[u8; 16]>,
+) -> Result<(), Fail> {
+    push_word(into, if thick { b"thick" } else { b"thin" })?;
+    let Some(uuid) = uuid else {
+        return Ok(());
+    };
     into.push(b' ')?;
     for byte in uuid {
-        into.extend_from_slice(format!(in alloc; "{byte:02x}")?.as_bytes())?;
+        push_digits(into, alloc, *byte)?;
     }
     Ok(())
 }
@@ -67,95 +86,108 @@ fn verb(command: &Command) -> &'static [u8] {
     }
 }
 
-/// What follows the verb: numbers in decimal, names, keys and values as they are.
-fn push_words(into: &mut Vec<u8>, alloc: Global, command: &Command) -> Result<(), Fail> {
+/// The volume that a command means, or the name of the one that it makes.
+fn push_meant(into: &mut Vec<u8>, alloc: Global, command: &Command) -> Result<(), Fail> {
     match command {
-        Command::Create {
-            name,
-            slots,
-            thick,
-            uuid,
-        } => {
-            push_word(into, name.bytes())?;
-            push_number(into, alloc, *slots)?;
-            push_word(into, if *thick { b"thick" } else { b"thin" })?;
-            if let Some(uuid) = uuid {
-                push_uuid(into, alloc, *uuid)?;
-            }
-        }
-        Command::Write { volume, page, word } => {
-            push_volume(into, alloc, volume)?;
-            push_number(into, alloc, *page)?;
-            if let PageWord::Fill(word) = word {
-                push_number(into, alloc, *word)?;
-            }
-        }
-        Command::Read { volume, page } => {
-            push_volume(into, alloc, volume)?;
-            push_number(into, alloc, *page)?;
-        }
-        Command::SetX { volume, key, value } | Command::Put { volume, key, value } => {
-            push_volume(into, alloc, volume)?;
-            push_word(into, key.bytes())?;
-            push_word(into, value.bytes())?;
-        }
-        Command::DelX { volume, key } | Command::GetX { volume, key } => {
-            push_volume(into, alloc, volume)?;
-            push_word(into, key.bytes())?;
-        }
-        Command::Resize { volume, slots } => {
-            push_volume(into, alloc, volume)?;
-            push_number(into, alloc, *slots)?;
-        }
-        Command::Snapshot { volume, name }
-        | Command::Clone { volume, name }
-        | Command::Rename { volume, name } => {
-            push_volume(into, alloc, volume)?;
-            push_word(into, name.bytes())?;
-        }
-        Command::Sync { volume }
+        Command::Create { name, .. } => push_word(into, name.bytes()),
+        Command::Write { volume, .. }
+        | Command::Read { volume, .. }
+        | Command::SetX { volume, .. }
+        | Command::Put { volume, .. }
+        | Command::DelX { volume, .. }
+        | Command::GetX { volume, .. }
+        | Command::Resize { volume, .. }
+        | Command::Snapshot { volume, .. }
+        | Command::Clone { volume, .. }
+        | Command::Rename { volume, .. }
+        | Command::Sync { volume }
         | Command::Inflate { volume }
         | Command::Decouple { volume }
         | Command::Delete { volume }
         | Command::ReadOnly { volume }
-        | Command::Info { volume } => push_volume(into, alloc, volume)?,
-        Command::Flush | Command::List | Command::Df => {}
+        | Command::Info { volume } => push_volume(into, alloc, volume),
+        Command::Flush | Command::List | Command::Df => Ok(()),
+    }
+}
+
+/// The page that a command reads or writes, or how many slots it asks for.
+fn push_place(into: &mut Vec<u8>, alloc: Global, command: &Command) -> Result<(), Fail> {
+    match command {
+        Command::Create { slots: number, .. }
+        | Command::Resize { slots: number, .. }
+        | Command::Write { page: number, .. }
+        | Command::Read { page: number, .. } => push_number(into, alloc, *number),
+        _ => Ok(()),
+    }
+}
+
+/// What stands behind the volume and the number.
+fn push_rest(into: &mut Vec<u8>, alloc: Global, command: &Command) -> Result<(), Fail> {
+    match command {
+        Command::Create { thick, uuid, .. } => push_kind(into, alloc, *thick, uuid),
+        Command::Write {
+            word: PageWord::Fill(word),
+            ..
+        } => push_number(into, alloc, *word),
+        Command::SetX { key, value, .. } | Command::Put { key, value, .. } => {
+            push_two_words(into, key.bytes(), value.bytes())
+        }
+        Command::DelX { key, .. } | Command::GetX { key, .. } => push_word(into, key.bytes()),
+        Command::Snapshot { name, .. }
+        | Command::Clone { name, .. }
+        | Command::Rename { name, .. } => push_word(into, name.bytes()),
+        _ => Ok(()),
+    }
+}
+
+/// A command: its verb, then numbers in decimal, and names, keys and values as they are.
+fn push_command(into: &mut Vec<u8>, alloc: Global, command: &Command) -> Result<(), Fail> {
+    push_word(into, verb(command))?;
+    push_meant(into, alloc, command)?;
+    push_place(into, alloc, command)?;
+    push_rest(into, alloc, command)
+}
+
+/// The commands of a channel, with its number before each and `;` after each.
+fn push_channel(
+    into: &mut Vec<u8>,
+    alloc: Global,
+    channel: u8,
+    commands: &[Command],
+) -> Result<(), Fail> {
+    let number = format!(in alloc; "{channel}")?;
+    for command in commands {
+        into.extend_from_slice(number.as_bytes())?;
+        push_command(into, alloc, command)?;
+        into.push(b';')?;
     }
     Ok(())
 }
 
-fn push_command(
-    into: &mut Vec<u8>,
-    alloc: Global,
-    channel: u8,
-    command: &Command,
-) -> Result<(), Fail> {
-    into.extend_from_slice(format!(in alloc; "{channel} ")?.as_bytes())?;
-    into.extend_from_slice(verb(command))?;
-    push_words(into, alloc, command)?;
-    into.push(b';')?;
-    Ok(())
-}
-
-/// The commands of each channel, with `;` after each.
+/// The commands of each channel.
 pub fn told_of(alloc: Global, script: &Script) -> Result<Vec<u8>, Fail> {
     let mut into = Vec::new(alloc);
     for channel in 0..16u8 {
-        for command in script.commands(channel) {
-            push_command(&mut into, alloc, channel, command)?;
-        }
+        push_channel(&mut into, alloc, channel, script.commands(channel))?;
     }
     Ok(into)
 }
 
-/// What a text is as a script: its commands, or the line at fault and its kind.
+/// The line at fault and its kind, or which limit is passed.
+fn fault_told(alloc: Global, fault: &ScriptFault) -> Result<Vec<u8>, Fail> {
+    match fault {
+        ScriptFault::BadLine { line, kind } => {
+            Ok(format!(in alloc; "{line} {kind:?}")?.into_bytes())
+        }
+        ScriptFault::TooBig => Ok(Vec::from_slice(alloc, b"too big")?),
+        ScriptFault::Memory => Ok(Vec::from_slice(alloc, b"no memory")?),
+    }
+}
+
+/// What a text is as a script: its commands, or what is wrong with it.
 pub fn told(alloc: Global, text: &[u8]) -> Result<Vec<u8>, Fail> {
     match parse(alloc, text) {
         Ok(script) => told_of(alloc, &script),
-        Err(ScriptFault::BadLine { line, kind }) => {
-            Ok(Vec::from_slice(alloc, format!(in alloc; "{line} {kind:?}")?.as_bytes())?)
-        }
-        Err(ScriptFault::TooBig) => Ok(Vec::from_slice(alloc, b"too big")?),
-        Err(ScriptFault::Memory) => Ok(Vec::from_slice(alloc, b"no memory")?),
+        Err(fault) => fault_told(alloc, &fault),
     }
 }

@@ -1,7 +1,6 @@
 //! The uuid of a store, and those that names have in it.
 
-use crate::plan_tests::sup;
-use crate::slot_plan_tests::metas;
+use crate::plan_stores::store_of_five;
 use lvol_store::{parse_uuid, store_uuid, uuid_for};
 use std::test::Fail;
 use volume_model::Name;
@@ -9,8 +8,8 @@ use volume_model::Name;
 #[test]
 fn a_store_has_its_super_blobs_uuid(rt: HostRuntime) -> Result<(), Fail> {
     let uuid = parse_uuid("5f2b4e66-0d0c-4c1e-9a55-3f0a7c2d9b10")?;
-    let metas = metas(rt.alloc())?;
-    assert_eq!(rt; store_uuid(&metas, &sup()?), uuid);
+    let store = store_of_five(rt.alloc())?;
+    assert_eq!(rt; store_uuid(&store.metas, &store.sup), uuid);
     Ok(())
 }
 

@@ -8,9 +8,11 @@ use volume_model::{Command, Entry, Reply, Volumes};
 
 /// Whether a page is 512 copies of this byte and seven zeros.
 fn is_fill(page: &[u8; 4096], byte: u8) -> bool {
-    page.iter()
-        .enumerate()
-        .all(|(at, b)| *b == if at % 8 == 0 { byte } else { 0 })
+    let mut wanted = [0; 4096];
+    for word in 0..512 {
+        wanted[8 * word] = byte;
+    }
+    *page == wanted
 }
 
 fn page_shown(page: &[u8; 4096]) -> &'static str {
@@ -36,21 +38,45 @@ fn command_shown(alloc: Global, command: &Command) -> Result<String, Fail> {
 
 /// Expects a text, of what a command is or has for its reply.
 fn expect(rt: &impl Abort, found: &str, wanted: &str, command: &str) {
-    assert_eq!(rt; found, wanted, "{command}");
+    assert!(rt; found == wanted, "{command}: {found}");
+}
+
+/// Expects that a copy shows this command.
+fn expect_command(
+    rt: &impl Abort,
+    alloc: Global,
+    copy: &Command,
+    wanted: &Command,
+) -> Result<(), Fail> {
+    let wanted = command_shown(alloc, wanted)?;
+    let found = command_shown(alloc, copy)?;
+    expect(rt, &found, &wanted, &wanted);
+    Ok(())
+}
+
+/// Expects the reply of an entry.
+fn expect_reply(rt: &impl Abort, alloc: Global, entry: &Entry, wanted: &str) -> Result<(), Fail> {
+    let command = command_shown(alloc, &entry.command)?;
+    let found = shown(alloc, &entry.reply)?;
+    expect(rt, &found, wanted, &command);
+    Ok(())
+}
+
+/// Expects that a copy has the command of its entry and this reply.
+fn expect_entry(
+    rt: &impl Abort,
+    alloc: Global,
+    copy: &Entry,
+    (entry, wanted): (&Entry, &str),
+) -> Result<(), Fail> {
+    expect_command(rt, alloc, &copy.command, &entry.command)?;
+    expect_reply(rt, alloc, copy, wanted)
 }
 
 /// Expects that an entry finds memory for its copy, which has its command and this reply.
 fn expect_copy(rt: &impl Abort, alloc: Global, entry: &Entry, wanted: &str) -> Result<(), Fail> {
     let copy = entry.try_copy(alloc)?;
-    let command = command_shown(alloc, &entry.command)?;
-    expect(
-        rt,
-        &command_shown(alloc, &copy.command)?,
-        &command,
-        &command,
-    );
-    expect(rt, &shown(alloc, &copy.reply)?, wanted, &command);
-    Ok(())
+    expect_entry(rt, alloc, &copy, (entry, wanted))
 }
 
 /// Does a command.
@@ -64,16 +90,26 @@ fn done(alloc: Global, volumes: &mut Volumes, command: Command) -> Entry {
     }
 }
 
+/// Does the command of a row, and expects its reply.
+fn expect_row(
+    rt: &impl Abort,
+    alloc: Global,
+    volumes: &mut Volumes,
+    row: &Row,
+) -> Result<(), Fail> {
+    let entry = done(alloc, volumes, command(alloc, row)?);
+    expect_copy(rt, alloc, &entry, row.4)
+}
+
 /// Does the commands, and expects their replies.
 fn play(rt: &impl Abort, alloc: Global, volumes: &mut Volumes, rows: &[Row]) -> Result<(), Fail> {
     for row in rows {
-        let entry = done(alloc, volumes, command(alloc, row)?);
-        expect_copy(rt, alloc, &entry, row.4)?;
+        expect_row(rt, alloc, volumes, row)?;
     }
     Ok(())
 }
 
-const THIN: [Row; 5] = [
+static THIN: [Row; 5] = [
     (Verb::Create, "", 4, "v", "Made(0)"),
     (Verb::Read, "v", 4, "", "zeros"),
     (Verb::Write, "v", 5, "", "Ok"),
@@ -90,7 +126,7 @@ fn a_thin_volume_reads_zeros_and_what_was_written(rt: HostRuntime) -> Result<(),
 // The super blob is at 0, v at 1 with 2 slots of two pages. v gets the parent s at 2, and s the clones v and c at 3; c
 // is cut and can't grow under s, and then t at 4 with 1 slot stands between s and c. A snapshot or a clone that is too
 // large, and a sum of slots that is, would take more memory than a machine has.
-const ROWS: [Row; 103] = [
+static ROWS: [Row; 103] = [
     (Verb::Create, "", 0, "store", "Made(0)"),
     (Verb::Create, "", 2, "v", "Made(1)"),
     (Verb::Create, "", 1, "v", "NameTaken"),
@@ -215,7 +251,7 @@ fn each_verb_is_done_and_refused(rt: HostRuntime) -> Result<(), Fail> {
 }
 
 // The name `v` and the uuid 11111111-1111-1111-1111-111111111111 are told by their bytes. The super blob isn't listed.
-const TOLD: [Row; 4] = [
+static TOLD: [Row; 4] = [
     (Verb::Create, "", 0, "store", "Made(0)"),
     (Verb::Create, "", 2, "v", "Made(1)"),
     (

@@ -80,10 +80,14 @@ fn names_find_memory_for_their_copies(rt: HostRuntime) -> Result<(), Fail> {
     Ok(())
 }
 
+fn copied_attribute(alloc: Global) -> Result<Xattr, Memory> {
+    Xattr::new(alloc, b"a\0b", b"1")?.try_copy(alloc)
+}
+
 fn two_attributes(alloc: Global) -> Result<XattrList, Memory> {
-    let xattr = Xattr::new(alloc, b"a\0b", b"1")?;
+    let xattr = copied_attribute(alloc)?;
     let mut list = XattrList::new(alloc);
-    list.push(xattr.try_copy(alloc)?)?;
+    list.push(xattr)?;
     list.with_value(alloc, b"k", b"22\0z")
 }
 
@@ -116,12 +120,21 @@ fn default_uuids_are_version_5(rt: HostRuntime) -> Result<(), Fail> {
     Ok(())
 }
 
+fn copied_page(alloc: Global) -> Result<PageWord, Memory> {
+    PageWord::Full(Box::new(alloc, [6; 4096])?).try_copy(alloc)
+}
+
+/// Whether a page is told by its bytes, which are sixes.
+fn is_page_of_sixes(word: &PageWord) -> bool {
+    match word {
+        PageWord::Full(page) => **page == [6; 4096],
+        PageWord::Fill(_) => false,
+    }
+}
+
 #[test]
 fn pages_find_memory_for_their_copies(rt: HostRuntime) -> Result<(), Fail> {
-    let word = PageWord::Full(Box::new(rt.alloc(), [6; 4096])?);
-    match word.try_copy(rt.alloc())? {
-        PageWord::Full(page) => assert!(rt; page.iter().all(|byte| *byte == 6)),
-        PageWord::Fill(_) => assert!(rt; false, "a page is copied as a page"),
-    }
+    let copy = copied_page(rt.alloc())?;
+    assert!(rt; is_page_of_sixes(&copy));
     Ok(())
 }

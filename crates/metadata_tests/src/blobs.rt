@@ -3,6 +3,7 @@
 use blob_meta::{Flags, Meta, Metas, ReplacementList, mark_of, parent_of};
 use descriptors::SlotMap;
 use std::alloc::Global;
+use std::process::Abort;
 use volume_model::{Memory, XattrList};
 
 /// A blob: its map, its flags, and the heads that SNAP, SNAPTMP and SNAPRM name.
@@ -57,6 +58,11 @@ pub(crate) const PARENT: Blob = Blob {
     ..PLAIN
 };
 
+/// Expects that this is the text that is wanted.
+pub(crate) fn expect(rt: &impl Abort, found: &str, wanted: &str) {
+    assert_eq!(rt; found, wanted);
+}
+
 fn with_id(
     alloc: Global,
     list: XattrList,
@@ -95,14 +101,24 @@ fn push_slot(map: &mut SlotMap, slot: Option<u32>) -> Result<(), Memory> {
     map.push_run(Some(cluster), 1)
 }
 
-fn meta_of(alloc: Global, blob: &Blob) -> Result<Meta, Memory> {
+fn map_of(alloc: Global, slots: &[Option<u32>]) -> Result<SlotMap, Memory> {
     let mut map = SlotMap::new(alloc);
-    for slot in blob.map {
+    for slot in slots {
         push_slot(&mut map, *slot)?;
     }
+    Ok(map)
+}
+
+/// The parent and the marks of a blob.
+fn internal_of(alloc: Global, blob: &Blob) -> Result<XattrList, Memory> {
     let internal = with_id(alloc, XattrList::new(alloc), b"SNAP", blob.snap)?;
     let internal = with_id(alloc, internal, b"SNAPTMP", blob.tmp)?;
-    let internal = with_id(alloc, internal, b"SNAPRM", blob.rm)?;
+    with_id(alloc, internal, b"SNAPRM", blob.rm)
+}
+
+fn meta_of(alloc: Global, blob: &Blob) -> Result<Meta, Memory> {
+    let map = map_of(alloc, blob.map)?;
+    let internal = internal_of(alloc, blob)?;
     Ok(Meta {
         id: (1 << 32) + u64::from(blob.head),
         flags: Flags {

@@ -1,6 +1,6 @@
 //! What is said of words that are refused, or that ask for help or the version.
 
-use crate::words::words_of;
+use crate::split_words::words_of;
 use command_words::refusal;
 use std::test::Fail;
 

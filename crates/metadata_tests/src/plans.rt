@@ -1,10 +1,11 @@
 //! The jobs of snapshots, clones and deletes, and the first cause for which each is refused.
 
-use crate::blobs::{Blob, CHILD, PLAIN, metas_of, replacements_shown};
+use crate::blobs::{Blob, CHILD, PLAIN, expect, metas_of, replacements_shown};
 use blob_meta::{Job, Metas};
 use inflate_delete::plan_delete;
 use snapshots::{plan_clone, plan_snapshot};
 use std::alloc::Global;
+use std::process::Abort;
 use std::test::Fail;
 use super_block::{Layout, Super};
 use volume_model::{Memory, Name, Reply};
@@ -28,7 +29,7 @@ struct Case {
 /// A volume `v` at head 5 with cluster 9 in its second slot, over its read-only parent `s` at head 3, which has another
 /// clone `c` at head 6; below s stands `g` at head 1, of three slots. A locked blob at head 7 is the one clone of `r`
 /// at head 4, and `u` at head 2 is alone; at head 0 is the super blob.
-const FAMILY: [Blob; 8] = [
+static FAMILY: [Blob; 8] = [
     Blob {
         head: 0,
         name: b"store\0",
@@ -84,7 +85,7 @@ const FAMILY: [Blob; 8] = [
     },
 ];
 
-const CASES: [Case; 14] = [
+static CASES: [Case; 14] = [
     Case {
         verb: Verb::Snapshot,
         volume: 5,
@@ -198,31 +199,43 @@ fn planned(alloc: Global, metas: &Metas, sup: &Super, case: &Case) -> Result<Job
     }
 }
 
-fn plan_shown(alloc: Global, plan: Result<Job, Reply>) -> Result<String, Memory> {
-    match plan {
-        Ok(job) => {
-            let list = replacements_shown(alloc, &job.list)?;
-            let (commit, freeze) = (job.commit, job.freeze);
-            format!(in alloc; "{list}commit {commit} freeze {freeze:?}").map_err(|_| Memory)
-        }
+fn job_shown(alloc: Global, job: &Job) -> Result<String, Memory> {
+    let list = replacements_shown(alloc, &job.list)?;
+    let (commit, freeze) = (job.commit, job.freeze);
+    format!(in alloc; "{list}commit {commit} freeze {freeze:?}").map_err(|_| Memory)
+}
+
+fn plan_shown(alloc: Global, metas: &Metas, sup: &Super, case: &Case) -> Result<String, Memory> {
+    match planned(alloc, metas, sup, case) {
+        Ok(job) => job_shown(alloc, &job),
         Err(reply) => format!(in alloc; "{reply:?}").map_err(|_| Memory),
     }
+}
+
+/// Expects of each case the job or the first cause that it tells.
+fn expect_plans(
+    rt: &impl Abort,
+    alloc: Global,
+    metas: &Metas,
+    sup: &Super,
+    cases: &[Case],
+) -> Result<(), Memory> {
+    for case in cases {
+        expect(rt, &plan_shown(alloc, metas, sup, case)?, case.wanted);
+    }
+    Ok(())
 }
 
 #[test]
 fn jobs_and_first_causes(rt: HostRuntime) -> Result<(), Fail> {
     let alloc = rt.alloc();
-    let metas = metas_of(alloc, &FAMILY)?;
     let sup = sup()?;
-    for case in &CASES {
-        let plan = planned(alloc, &metas, &sup, case);
-        assert_eq!(rt; plan_shown(alloc, plan)?.as_str(), case.wanted);
-    }
-    Ok(())
+    let metas = metas_of(alloc, &FAMILY)?;
+    Ok(expect_plans(&rt, alloc, &metas, &sup, &CASES)?)
 }
 
 /// A blob of one slot between a parent and a clone of two, which would read of the parent what the blob doesn't.
-const BETWEEN: [Blob; 3] = [
+static BETWEEN: [Blob; 3] = [
     Blob {
         head: 1,
         data_ro: 1,
@@ -242,18 +255,17 @@ const BETWEEN: [Blob; 3] = [
     },
 ];
 
-const SHORT: Case = Case {
+static SHORT: [Case; 1] = [Case {
     verb: Verb::Delete,
     volume: 3,
     name: "t",
     wanted: "Short",
-};
+}];
 
 #[test]
 fn a_blob_between_longer_ones_stays(rt: HostRuntime) -> Result<(), Fail> {
     let alloc = rt.alloc();
+    let sup = sup()?;
     let metas = metas_of(alloc, &BETWEEN)?;
-    let plan = planned(alloc, &metas, &sup()?, &SHORT);
-    assert_eq!(rt; plan_shown(alloc, plan)?.as_str(), SHORT.wanted);
-    Ok(())
+    Ok(expect_plans(&rt, alloc, &metas, &sup, &SHORT)?)
 }

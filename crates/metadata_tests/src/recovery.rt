@@ -1,8 +1,11 @@
 //! What recovery makes of each state of a snapshot that is being made or removed.
 
-use crate::blobs::{Blob, CHILD, PLAIN, metas_of, metas_shown, replacements_shown};
-use blob_meta::resolve;
+use crate::blobs::{Blob, CHILD, PLAIN, expect, metas_of, metas_shown, replacements_shown};
+use blob_meta::{Resolved, resolve};
+use std::alloc::Global;
+use std::process::Abort;
 use std::test::Fail;
+use volume_model::Memory;
 
 struct Case {
     found: &'static [Blob],
@@ -11,7 +14,7 @@ struct Case {
     repairs: &'static str,
 }
 
-const CASES: [Case; 10] = [
+static CASES: [Case; 10] = [
     // A snapshot at head 3 of the volume at head 5, before its first replacement and after each.
     Case {
         found: &[PLAIN],
@@ -172,17 +175,33 @@ const CASES: [Case; 10] = [
     },
 ];
 
+/// Expects of what recovery made of a case what the case tells.
+fn expect_resolved(
+    rt: &impl Abort,
+    alloc: Global,
+    resolved: &Resolved,
+    case: &Case,
+) -> Result<(), Memory> {
+    expect(rt, &metas_shown(alloc, &resolved.metas)?, case.resolved);
+    expect(rt, &metas_shown(alloc, &resolved.removed)?, case.removed);
+    expect(
+        rt,
+        &replacements_shown(alloc, &resolved.repairs)?,
+        case.repairs,
+    );
+    Ok(())
+}
+
+fn expect_case(rt: &impl Abort, alloc: Global, case: &Case) -> Result<(), Memory> {
+    let resolved = resolve(alloc, metas_of(alloc, case.found)?)?;
+    expect_resolved(rt, alloc, &resolved, case)
+}
+
 #[test]
 fn half_made_snapshots_are_finished_or_undone(rt: HostRuntime) -> Result<(), Fail> {
     let alloc = rt.alloc();
     for case in &CASES {
-        let found = resolve(alloc, metas_of(alloc, case.found)?)?;
-        assert_eq!(rt; metas_shown(alloc, &found.metas)?.as_str(), case.resolved);
-        assert_eq!(rt; metas_shown(alloc, &found.removed)?.as_str(), case.removed);
-        assert_eq!(rt;
-            replacements_shown(alloc, &found.repairs)?.as_str(),
-            case.repairs
-        );
+        expect_case(&rt, alloc, case)?;
     }
     Ok(())
 }

@@ -1,9 +1,10 @@
 //! The jobs at the ends of inflates and decouples, and the first cause for which each is refused.
 
-use crate::blobs::{Blob, CHILD, GRANDPARENT, PARENT, PLAIN, metas_of, replacements_shown};
+use crate::blobs::{Blob, CHILD, GRANDPARENT, PARENT, PLAIN, expect, metas_of, replacements_shown};
 use blob_meta::{Job, Meta, Metas};
 use inflate_delete::{Fill, FillKind};
 use std::alloc::Global;
+use std::process::Abort;
 use std::test::Fail;
 use super_block::{Layout, Super};
 use volume_model::{Memory, Reply};
@@ -20,7 +21,7 @@ struct Case {
 /// `s`. Over `g` is `w` at head 9, filled but for its last slot, past the end of `g`. At head 2 is `u` without a parent
 /// and without an empty slot. A read-only blob as long as `c` is at head 7, a locked one without a parent at head 8; at
 /// head 0 is the super blob, read-only too.
-const FAMILY: [Blob; 9] = [
+static FAMILY: [Blob; 9] = [
     Blob {
         head: 0,
         name: b"store\0",
@@ -75,7 +76,7 @@ const FAMILY: [Blob; 9] = [
     },
 ];
 
-const CASES: [Case; 15] = [
+static CASES: [Case; 15] = [
     Case {
         kind: FillKind::Inflate,
         volume: 6,
@@ -164,26 +165,37 @@ fn sup() -> Result<Super, Fail> {
     Ok(Layout::plan(64, 4, Some(16))?.new_super(1 << 32, [0; 16]))
 }
 
-/// What of the new metadata `replacements_shown` leaves out, and the rest of the job.
-fn job_shown(alloc: Global, job: &Job) -> Result<String, Memory> {
-    let mut text = replacements_shown(alloc, &job.list)?;
+/// What of new metadata `replacements_shown` leaves out.
+fn new_shown(alloc: Global, new: &Meta) -> Result<String, Memory> {
+    let (thin, id) = (new.flags.is_thin(), new.id % (1 << 32));
+    let (attributes, internal) = (new.xattrs.as_slice().len(), new.internal.as_slice().len());
+    let name = name_shown(new);
+    format!(in alloc;
+        "thin {thin} id {id} name {name} attributes {attributes} internal {internal};"
+    ).map_err(|_| Memory)
+}
+
+fn push_new(text: &mut String, alloc: Global, job: &Job) -> Result<(), Memory> {
     for replacement in job.list.as_slice() {
         if let Some(new) = &replacement.new {
-            let (thin, id) = (new.flags.is_thin(), new.id % (1 << 32));
-            let (attributes, internal) = (
-                new.xattrs.as_slice().len(),
-                new.internal.as_slice().len(),
-            );
-            let name = name_shown(new);
-            let piece = format!(in alloc;
-                "thin {thin} id {id} name {name} attributes {attributes} internal {internal};"
-            );
-            text.push_str(piece.map_err(|_| Memory)?.as_str())?;
+            text.push_str(new_shown(alloc, new)?.as_str())?;
         }
     }
+    Ok(())
+}
+
+/// The job without its list.
+fn rest_shown(alloc: Global, job: &Job) -> Result<String, Memory> {
     let (commit, zero, freeze) = (job.commit, job.zero.as_slice().len(), job.freeze);
-    let rest = format!(in alloc; "commit {commit} zero {zero} freeze {freeze:?}");
-    text.push_str(rest.map_err(|_| Memory)?.as_str())?;
+    format!(in alloc; "commit {commit} zero {zero} freeze {freeze:?}").map_err(|_| Memory)
+}
+
+/// The replacements, what they leave out of the new metadata, and the rest of the job.
+fn job_shown(alloc: Global, job: &Job) -> Result<String, Memory> {
+    let rest = rest_shown(alloc, job)?;
+    let mut text = replacements_shown(alloc, &job.list)?;
+    push_new(&mut text, alloc, job)?;
+    text.push_str(rest.as_str())?;
     Ok(text)
 }
 
@@ -222,33 +234,56 @@ fn plan_shown(alloc: Global, metas: &Metas, sup: &Super, case: &Case) -> Result<
     }
 }
 
-#[test]
-fn fills_and_first_causes(rt: HostRuntime) -> Result<(), Fail> {
-    let alloc = rt.alloc();
-    let metas = metas_of(alloc, &FAMILY)?;
-    let sup = sup()?;
+/// Expects of each case what it tells.
+fn expect_plans(rt: &impl Abort, alloc: Global, metas: &Metas, sup: &Super) -> Result<(), Memory> {
     for case in &CASES {
-        assert_eq!(rt;
-            plan_shown(alloc, &metas, &sup, case)?.as_str(),
-            case.wanted
-        );
+        expect(rt, &plan_shown(alloc, metas, sup, case)?, case.wanted);
     }
     Ok(())
 }
+
+#[test]
+fn fills_and_first_causes(rt: HostRuntime) -> Result<(), Fail> {
+    let alloc = rt.alloc();
+    let sup = sup()?;
+    let metas = metas_of(alloc, &FAMILY)?;
+    Ok(expect_plans(&rt, alloc, &metas, &sup)?)
+}
+
+static LAST_CASES: [Case; 4] = [
+    Case {
+        kind: FillKind::Inflate,
+        volume: 8,
+        wanted: "ReadOnly",
+    },
+    Case {
+        kind: FillKind::Decouple,
+        volume: 8,
+        wanted: "ReadOnly",
+    },
+    Case {
+        kind: FillKind::Decouple,
+        volume: 2,
+        wanted: "NoParent",
+    },
+    Case {
+        kind: FillKind::Decouple,
+        volume: 6,
+        wanted: "Short",
+    },
+];
 
 /// Of metadata that has changed since a fill was planned, its last job is refused by what holds then.
 #[test]
 fn last_jobs_are_refused(rt: HostRuntime) -> Result<(), Fail> {
     let alloc = rt.alloc();
     let metas = metas_of(alloc, &FAMILY)?;
-    for (kind, volume, wanted) in [
-        (FillKind::Inflate, 8, "ReadOnly"),
-        (FillKind::Decouple, 8, "ReadOnly"),
-        (FillKind::Decouple, 2, "NoParent"),
-        (FillKind::Decouple, 6, "Short"),
-    ] {
-        let fill = Fill { volume, kind };
-        assert_eq!(rt; last_shown(alloc, &metas, &fill)?.as_str(), wanted);
+    for case in &LAST_CASES {
+        let fill = Fill {
+            volume: case.volume,
+            kind: case.kind,
+        };
+        expect(&rt, &last_shown(alloc, &metas, &fill)?, case.wanted);
     }
     Ok(())
 }

@@ -1,6 +1,6 @@
 //! Commands, and words that spell none.
 
-use crate::words::words_of;
+use crate::split_words::words_of;
 use command_words::{read_words, refusal};
 use std::test::Fail;
 

@@ -1,5 +1,0 @@
-//! Tests of `data_path`.
-#![tactic(auto)]
-
-#[cfg(test)]
-mod parts;

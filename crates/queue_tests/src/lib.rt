@@ -1,5 +1,0 @@
-//! Tests of `md_queue`.
-#![tactic(auto)]
-
-#[cfg(test)]
-mod ends;

@@ -1,5 +1,0 @@
-//! Tests of `streams`: texts that are read and printed.
-#![tactic(auto)]
-
-#[cfg(test)]
-mod texts;
