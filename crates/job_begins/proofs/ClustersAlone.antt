@@ -4,7 +4,7 @@ use Rattle.std.proofs.Common.{get_or, drop}
 use Rattle.std.proofs.Common.{Option, Some, None, refl, sym, ap, ◌∙◌, subst, inl, inr, arith, drop-cons, add-one}
 use Rattle.std.proofs.lemmas.Bool.{both_ways, cases_Bool, cases_eq, cases_lt, eq-eqb, ne_eqb}
 use Rattle.std.proofs.lemmas.List.{length-set}
-use Rattle.std.specs.Prelude.{slice_set}
+use Rattle.std.specs.Prelude.{is_some, slice_set}
 use Rattle.bit_array.specs.Bits.{is_in}
 use Rattle.super_block.specs.declared.page.Super.{Super}
 use Rattle.blob_meta.specs.declared.meta.Meta.{Meta}
@@ -19,7 +19,7 @@ use Rattle.store_model.specs.Steady.{AreStored}
 use Rattle.store_model.proofs.Inside.{inside_slot}
 use Rattle.store_model.proofs.Sets.{all_set_in, all_set_out, among_first, among_later, AllBelow}
 use Rattle.store_model.proofs.WithEntry.{given_here, given_elsewhere}
-use Rattle.job_begins.specs.Alone.{HaveRoom, IsMappedBeside, IsMissing}
+use Rattle.job_begins.specs.Alone.{AreChained, HaveRoom, IsMappedBeside, IsMissing}
 use Rattle.job_begins.proofs.CutClusters.{among_slots, in_slot, none_behind}
 
 -- ---- a set with the clusters of a map
@@ -213,6 +213,15 @@ adds_all old slots i now le a =
     sym (ap (λ l. all_set now (clusters_held l) true) (none_behind slots i le)) ∙ a.so_far
 
 -- ---- head by head
+
+-- where no chain is, no blob is
+pub no_blob : (base : Metas) (chains : ℕ → Option (List ℕ)) → AreChained base chains → (head : ℕ)
+    → chains head ≡ None → base head ≡ None
+no_blob base chains chained head none = by (base head) refl
+  where
+    by : (o : Option Meta) → base head ≡ o → base head ≡ None
+    by None is = is
+    by (Some m) is = let bad = sym (chained head m is) ∙ ap is_some none in absurd (cc bad)
 
 -- the set has the clusters of the blobs so far
 abbrev pub HasBeside : ℕ → Metas → ℕ → List Bool → Type 0

@@ -9,6 +9,7 @@ pub mod LiveBehind
 pub mod JobAsked
 pub mod JobPrepared
 pub mod JobBegin
+pub mod BeginKnown
 pub mod JobTaken
 pub mod SlotsFilled
 pub mod Needed

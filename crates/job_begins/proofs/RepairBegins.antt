@@ -39,7 +39,7 @@ use Rattle.running_store.proofs.Maps.{insert_given, remove_given}
 use Rattle.running_store.proofs.Resolved.{resolved_none}
 use Rattle.job_views.specs.Replacing.{blobs_in}
 use Rattle.job_begins.proofs.PlacesThere.{places_there}
-use Rattle.job_begins.specs.Alone.{HaveRoom, IsMappedBeside, IsMissing}
+use Rattle.job_begins.specs.Alone.{AreChained, HaveRoom, IsMappedBeside, IsMissing}
 use Rattle.job_begins.specs.Begins.{no_effects, planned_with, IsPrepared}
 use Rattle.job_begins.specs.Repairs.{IsDue, IsLackForRepair, RepairsOrNot}
 use Rattle.job_begins.specs.declared.preparing.Prepared.{Prepared}
@@ -92,6 +92,10 @@ module _ {D : Type 0} (d : Ghosts D) (p : StoreView D) (running : IsRunning (sta
       let at = in_slot m.map c among in
       within p.clusters c (well.clusters.mapped c
       (record { head = head; meta = m; there = there; place = at.i; in_slot = at.at }))
+
+  -- each blob has a chain
+  pub chained : AreChained s.base s.chains
+  chained head m there = ap is_some (well.chains.chain head m there).1
 
   -- and so are those of one of them
   pub room_for : (head : ℕ) (m : Meta) → s.base head ≡ Some m → (count : ℕ) → count ≡ length p.clusters → (k : ℕ)

@@ -1,12 +1,11 @@
 -- The job of a snapshot begins, as the model has it, and can be kept in memory, once its pages are taken.
-use Rattle.std.proofs.Common.{◌≡◌, ◌≢◌, ◌∙◌, ℕ, ◌<◌, Bool, true, false, List, [], ◌∷◌, length, Option, None, Some, refl}
+use Rattle.std.proofs.Common.{◌≡◌, ◌∙◌, ℕ, Bool, true, false, List, [], ◌∷◌, Option, Some, refl}
 use Rattle.std.proofs.Common.{sym, ap, subst}
 use Rattle.std.specs.Prelude.{is_some, slice_set}
 use Rattle.std.specs.List.{AllByRecursion}
 use Rattle.page_disk.specs.declared.disk.PageDisk.{Ghosts}
 use Rattle.volume_model.specs.declared.reply.Reply.TheVariants as r
 use Rattle.blob_meta.specs.declared.job.Job.{Job}
-use Rattle.blob_meta.specs.Repairs.{HasNoMarks}
 use Rattle.io_freeze.specs.Guards.{frozen_at}
 use Rattle.snapshots.specs.SnapshotJobs.{snapshot_job}
 use Rattle.shown_volumes.specs.JobLaws.{IsClear}
@@ -20,19 +19,22 @@ use Rattle.store_model.specs.StoreState.{ForCommand, JobState, marked, StoreStat
 use Rattle.running_store.specs.Blobs.{Blobs, CanAllBeKept}
 use Rattle.running_store.specs.Jobs.{job_seen, phases_in, to_come, writes_laid, IsFollowing, IsHeaded, IsMatched}
 use Rattle.running_store.specs.Places.{HasPlace}
-use Rattle.running_store.specs.Steps.{Asks, IsPostedAt}
-use Rattle.running_store.specs.RunningState.{IsRunning}
-use Rattle.running_store.specs.StoreView.{base_of, rows_of, state_of, AreResolved, StoreView}
+use Rattle.running_store.specs.Steps.{Asks}
+use Rattle.running_store.specs.StoreView.{rows_of, state_of, StoreView}
 use Rattle.running_store.specs.declared.job.RunningJob.{RunningJob}
 use Rattle.running_store.specs.declared.job.Serves.TheVariants as whom
 use Rattle.running_store.specs.declared.job.Work.TheVariants as work
 use Rattle.running_store.specs.declared.replacements.LaidReplacement.{LaidReplacement}
 use Rattle.running_store.specs.declared.replacements.Planned.{Planned}
 use Rattle.job_views.specs.Replacing.{blobs_in}
+use Rattle.running_store.specs.Running.{view_of}
+use Rattle.running_store.specs.declared.running.Running.{Running}
+use Rattle.job_begins.specs.JobBegins.{CanBegin}
 use Rattle.job_begins.specs.ListPlaces.{HasSnapshotPlaces}
 use Rattle.job_begins.specs.Snapshots.{AreSnapshotParts, AsksToSnapshot, IsRunningSnapshot}
 use Rattle.job_begins.specs.declared.asking.SnapshotAsk.{SnapshotAsk}
 use Rattle.job_begins.specs.declared.snapshot_parts.SnapshotParts.{SnapshotParts}
+use Rattle.job_begins.proofs.BeginKnown.{has_row, no_job}
 use Rattle.job_begins.proofs.ListBegun.{begins_list}
 use Rattle.job_begins.proofs.SnapshotAsked.{IsSnapshotAsked}
 use Rattle.job_begins.proofs.SnapshotKnown as before
@@ -41,18 +43,20 @@ use Rattle.job_begins.proofs.SnapshotListed as its
 use Rattle.job_begins.proofs.SnapshotListed.{SnapshotTaken}
 use Rattle.job_begins.proofs.SnapshotPlaces.{snapshot_all_kept}
 
-module _ {D : Type 0} (d : Ghosts D) {p : StoreView D} {channel : ℕ} (posted : IsPostedAt p channel)
-    (running : IsRunning (state_of d p)) (clean : HasNoMarks (base_of p.metas p.marked)) (runs : p.stopped ≡ None)
-    (no_job : p.job ≡ None) {x : SnapshotAsk}
-    (asks_it : Asks p channel (λ command. AsksToSnapshot (state_of d p) command x)) where
+module _ {D : Type 0} {d : Ghosts D} {store : Running D} {channel : ℕ} (can : CanBegin d store channel)
+    {x : SnapshotAsk}
+    (asks_it : Asks (view_of store) channel (λ command. AsksToSnapshot (state_of d (view_of store)) command x)) where
+  abbrev p : StoreView D
+  p = view_of store
+
   abbrev s : StoreState
   s = state_of d p
 
-  abbrev asks : AsksToSnapshot s posted.waits.command x
-  asks = before.asks d posted running clean runs no_job asks_it
+  abbrev asks : AsksToSnapshot s can.posted.waits.command x
+  asks = before.asks can asks_it
 
-  abbrev known : IsSnapshotAsked s running clean runs no_job posted.waits.command x asks
-  known = before.known d posted running clean runs no_job asks_it
+  abbrev known : IsSnapshotAsked s can.running can.unmarked can.runs (no_job can) can.posted.waits.command x asks
+  known = before.known can asks_it
 
   abbrev commit : Committing
   commit = record {
@@ -61,23 +65,19 @@ module _ {D : Type 0} (d : Ghosts D) {p : StoreView D} {channel : ℕ} (posted :
     renews = x.of ∷ x.head ∷ [];
   }
 
-  asked : IsJobFor s posted.waits.command (snapshot_job x.of known.old x.head known.xattrs) commit
+  asked : IsJobFor s can.posted.waits.command (snapshot_job x.of known.old x.head known.xattrs) commit
   asked = subst
-      (λ (c : Committing). IsJobFor s posted.waits.command (snapshot_job x.of known.old x.head known.xattrs) c)
-      known.commit (subst (λ (j : Job). IsJobFor s posted.waits.command j asks.commit) known.job asks.asked)
+      (λ (c : Committing). IsJobFor s can.posted.waits.command (snapshot_job x.of known.old x.head known.xattrs) c)
+      known.commit (subst (λ (j : Job). IsJobFor s can.posted.waits.command j asks.commit) known.job asks.asked)
 
   module _ (parts : SnapshotParts) (are : AreSnapshotParts (blobs_in p) x parts) (after : List Bool) (job : RunningJob)
       (on : IsRunningSnapshot parts channel p.pages after job) where
     abbrev k : SnapshotTaken D
     k = record {
       d = d;
-      p = p;
+      store = store;
       channel = channel;
-      posted = posted;
-      running = running;
-      clean = clean;
-      runs = runs;
-      no_job = no_job;
+      can = can;
       x = x;
       asks_it = asks_it;
       parts = parts;
@@ -127,14 +127,13 @@ module _ {D : Type 0} (d : Ghosts D) {p : StoreView D} {channel : ℕ} (posted :
     })
 
     -- It begins, with its pages taken and the volume frozen,
-    pub snapshot_begins_so : p.filling ≢ Some channel → channel < length p.rows
-        → Begins s (state_of d (record p {
-          rows = slice_set p.rows channel (record (rows_of p.rows channel) { stage = InJob });
-          job = Some (marked p.clean (job_seen job));
-          guards = frozen_at p.guards x.of;
-          pages = after;
-        }))
-    snapshot_begins_so unfilled low =
+    pub snapshot_begins_so : Begins s (state_of d (record p {
+      rows = slice_set p.rows channel (record (rows_of p.rows channel) { stage = InJob });
+      job = Some (marked p.clean (job_seen job));
+      guards = frozen_at p.guards x.of;
+      pages = after;
+    }))
+    snapshot_begins_so =
         let all = snapshot_list_laid p.super (its.placed k) s.base s.chains p.pages (its.used k).count x.of x.head
         known.old known.xattrs known.there known.none known.apart parts.old are.behind known.no_chain
         known.volume_in_use on.laid.begun on.laid.filled on.laid.emptied on.laid.made (its.least_parts k)
@@ -148,9 +147,10 @@ module _ {D : Type 0} (d : Ghosts D) {p : StoreView D} {channel : ℕ} (posted :
           guards = frozen_at p.guards x.of;
           pages = after;
         }))) (sym job_is)
-        (begins_list d p channel posted clean runs no_job (snapshot_job x.of known.old x.head known.xattrs) commit
+        (begins_list d p channel can.posted can.unmarked can.runs (no_job can) (snapshot_job x.of known.old x.head
+        known.xattrs) commit
         asked refl (its.list k) all.commits_at all.laid after
-        (on.pages.set ∙ ap (λ l. all_set p.pages l true) (its.taken_are k ∙ sym all.takes)) unfilled low)
+        (on.pages.set ∙ ap (λ l. all_set p.pages l true) (its.taken_are k ∙ sym all.takes)) can.unfilled (has_row can))
 
     -- is headed,
     pub snapshot_headed : IsHeaded job
@@ -178,9 +178,8 @@ module _ {D : Type 0} (d : Ghosts D) {p : StoreView D} {channel : ℕ} (posted :
     )
 
     -- and can be kept in memory.
-    pub snapshot_kept_so : AreResolved p.metas p.marked
-        → CanAllBeKept (record (blobs_in p) { guards = frozen_at p.guards x.of }) (to_come job)
-    snapshot_kept_so resolved =
+    pub snapshot_kept_so : CanAllBeKept (record (blobs_in p) { guards = frozen_at p.guards x.of }) (to_come job)
+    snapshot_kept_so =
         let b : Blobs = record (blobs_in p) { guards = frozen_at p.guards x.of } in
         let has : HasSnapshotPlaces b x.of x.head (Some (its.room k).0) are.effects.mark_room are.effects.live_room
         are.effects.shown_room = record {
@@ -190,13 +189,14 @@ module _ {D : Type 0} (d : Ghosts D) {p : StoreView D} {channel : ℕ} (posted :
           live = are.effects.live;
           shown = are.effects.shown;
           chained = ap is_some are.behind;
-          numbered = before.numbered d posted running clean runs no_job asks_it;
+          numbered = before.numbered can asks_it;
           few = are.few;
           left = are.left;
         } in
         let clear : IsClear (fixed_of p.super) s.base x.head = record { none = known.none; low = its.head_low k } in
         subst (CanAllBeKept b) (sym list_is)
-        (snapshot_all_kept (fixed_of p.super) b x.of x.head known.old known.xattrs resolved known.rest known.there
+        (snapshot_all_kept (fixed_of p.super) b x.of x.head known.old known.xattrs can.order.resolves known.rest
+        known.there
         clear (Some (its.room k).0) are.effects.mark_room are.effects.live_room are.effects.shown_room has
         (x.head ∷ on.laid.begun) (x.head ∷ on.laid.filled) (x.of ∷ on.laid.emptied) (x.head ∷ on.laid.made)
         (its.first_pages k) (its.second_pages k) (its.third_pages k) (its.fourth_pages k) [] on.laid.begun parts.old

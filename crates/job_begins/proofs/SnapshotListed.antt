@@ -6,21 +6,22 @@ use Rattle.super_block.specs.Placed.{IsPlaced}
 use Rattle.md_chain.specs.declared.plan.PlannedPage.{PlannedPage}
 use Rattle.md_chain.proofs.Fitting.{some_parts}
 use Rattle.blob_meta.specs.declared.meta.Meta.{Meta}
-use Rattle.blob_meta.specs.Repairs.{HasNoMarks}
 use Rattle.blob_meta.specs.Resolving.{without_marks}
 use Rattle.snapshots.specs.SnapshotJobs.{begun_snapshot, emptied_volume, filled_snapshot}
 use Rattle.store_model.specs.Places.{AreLeastClear, UsedPages}
 use Rattle.store_model.specs.StoreState.{StoreState}
 use Rattle.store_model.specs.Steady.{IsStored}
-use Rattle.running_store.specs.Steps.{Asks, IsPostedAt}
-use Rattle.running_store.specs.RunningState.{IsRunning}
-use Rattle.running_store.specs.StoreView.{base_of, state_of, StoreView}
+use Rattle.running_store.specs.Running.{view_of}
+use Rattle.running_store.specs.Steps.{Asks}
+use Rattle.running_store.specs.StoreView.{state_of, StoreView}
 use Rattle.running_store.specs.declared.effects.Effects.{Effects}
 use Rattle.running_store.specs.declared.job.RunningJob.{RunningJob}
+use Rattle.running_store.specs.declared.running.Running.{Running}
 use Rattle.running_store.specs.declared.replacements.LaidReplacement.{LaidReplacement}
 use Rattle.running_store.specs.declared.replacements.Planned.{Planned}
 use Rattle.job_views.specs.Replacing.{blobs_in}
 use Rattle.job_begins.specs.Begins.{no_effects}
+use Rattle.job_begins.specs.JobBegins.{CanBegin}
 use Rattle.job_begins.specs.Drafts.{IsDraftOf}
 use Rattle.job_begins.specs.ListJobs.{effects_in, snapshot_commit}
 use Rattle.job_begins.specs.Snapshots.{AreSnapshotEffects, AreSnapshotParts, AsksToSnapshot, IsRunningSnapshot}
@@ -29,6 +30,7 @@ use Rattle.job_begins.specs.declared.asking.SnapshotAsk.{SnapshotAsk}
 use Rattle.job_begins.specs.declared.snapshot_parts.SnapshotDrafts.{SnapshotDrafts}
 use Rattle.job_begins.specs.declared.snapshot_parts.SnapshotEffects.{SnapshotEffects}
 use Rattle.job_begins.specs.declared.snapshot_parts.SnapshotParts.{SnapshotParts}
+use Rattle.job_begins.proofs.BeginKnown.{no_job}
 use Rattle.job_begins.proofs.JobPlaces.{taken_is}
 use Rattle.job_begins.proofs.SnapshotAsked.{IsSnapshotAsked}
 use Rattle.job_begins.proofs.SnapshotLaid.{snapshot_list}
@@ -42,38 +44,37 @@ room_of (Some room) some = (room, refl)
 -- A snapshot that is asked for, and the job that is made of it when its pages are taken.
 pub record SnapshotTaken (D : Type 0) : Type 1 where
   pub d : Ghosts D
-  pub p : StoreView D
+  pub store : Running D
   pub channel : ℕ
-  pub posted : IsPostedAt p channel
-  pub running : IsRunning (state_of d p)
-  pub clean : HasNoMarks (base_of p.metas p.marked)
-  pub runs : p.stopped ≡ None
-  pub no_job : p.job ≡ None
+  pub can : CanBegin d store channel
   pub x : SnapshotAsk
-  pub asks_it : Asks p channel (λ command. AsksToSnapshot (state_of d p) command x)
+  pub asks_it : Asks (view_of store) channel (λ command. AsksToSnapshot (state_of d (view_of store)) command x)
   pub parts : SnapshotParts
-  pub are : AreSnapshotParts (blobs_in p) x parts
+  pub are : AreSnapshotParts (blobs_in (view_of store)) x parts
   pub after : List Bool
   pub job : RunningJob
-  pub on : IsRunningSnapshot parts channel p.pages after job
+  pub on : IsRunningSnapshot parts channel (view_of store).pages after job
 
 module _ {D : Type 0} (k : SnapshotTaken D) where
-  open k use {d, p, channel, posted, running, clean, runs, no_job, x, asks_it, parts, are, job, on}
+  open k use {d, store, channel, can, x, asks_it, parts, are, job, on}
+
+  abbrev p : StoreView D
+  p = view_of store
 
   abbrev s : StoreState
   s = state_of d p
 
-  abbrev asks : AsksToSnapshot s posted.waits.command x
-  asks = before.asks d posted running clean runs no_job asks_it
+  abbrev asks : AsksToSnapshot s can.posted.waits.command x
+  asks = before.asks can asks_it
 
-  abbrev pub known : IsSnapshotAsked s running clean runs no_job posted.waits.command x asks
-  known = before.known d posted running clean runs no_job asks_it
+  abbrev pub known : IsSnapshotAsked s can.running can.unmarked can.runs (no_job can) can.posted.waits.command x asks
+  known = before.known can asks_it
 
   pub placed : IsPlaced p.super
-  placed = before.placed d posted running clean runs no_job asks_it
+  placed = before.placed can asks_it
 
   pub used : UsedPages p.super.md_len p.pages s.chains []
-  used = before.used d posted running clean runs no_job asks_it
+  used = before.used can asks_it
 
   abbrev begun : Meta
   begun = begun_snapshot x.of known.old x.head known.xattrs
@@ -117,7 +118,7 @@ module _ {D : Type 0} (k : SnapshotTaken D) where
   -- the first place that is taken is the new blob's head,
   first_taken : taken ≡ x.head ∷ drop 1 taken
   first_taken = taken_is p.pages true x.head taken on.pages.least
-      (λ _. before.next_head d posted running clean runs no_job asks_it) (λ _. some)
+      (λ _. before.next_head can asks_it) (λ _. some)
 
   least_from : AreLeastClear p.pages (x.head ∷ drop 1 taken)
   least_from = subst (AreLeastClear p.pages) first_taken on.pages.least

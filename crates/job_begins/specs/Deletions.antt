@@ -15,7 +15,7 @@ use Rattle.store_model.specs.Phases.{Committing}
 use Rattle.store_model.specs.Places.{all_set, AreDistinct}
 use Rattle.store_model.specs.StoreState.{ForCommand, StoreState}
 use Rattle.running_store.specs.Blobs.{Blobs}
-use Rattle.running_store.specs.Jobs.{erases_laid, job_seen, phases_in, to_come, writes_laid}
+use Rattle.running_store.specs.Jobs.{erases_laid, job_seen, phases_in, to_come, writes_laid, IsHeaded}
 use Rattle.running_store.specs.Places.{HasPlace}
 use Rattle.running_store.specs.StoreView.{base_of}
 use Rattle.running_store.specs.declared.job.RunningJob.{RunningJob}
@@ -23,9 +23,9 @@ use Rattle.running_store.specs.declared.replacements.LaidReplacement.{LaidReplac
 use Rattle.running_store.specs.declared.replacements.Planned.{Planned}
 use Rattle.job_begins.specs.Alone.{IsMappedBeside, IsMissing}
 use Rattle.job_begins.specs.Begins.{needed, no_effects}
-use Rattle.job_begins.specs.Drafts.{IsDraftOf, IsPlannedOn}
+use Rattle.job_begins.specs.Drafts.{IsDraft, IsDraftOf, IsPlannedOn}
 use Rattle.job_begins.specs.ListJobs.{effects_in}
-use Rattle.job_begins.specs.JobPages.{ArePagesTaken}
+use Rattle.job_begins.specs.JobPages.{IsOnPages}
 use Rattle.job_begins.specs.declared.asking.DeletionAsk.{DeletionAsk}
 use Rattle.job_begins.specs.declared.deletion_parts.DeletionDrafts.{DeletionDrafts}
 use Rattle.job_begins.specs.declared.deletion_parts.DeletionEffects.{DeletionEffects}
@@ -96,6 +96,7 @@ pub record IsDeletionLaid (x : DeletionDrafts) (effects : DeletionEffects) (chan
   pub first_laid : IsPlannedOn x.going going effects.begin first
   pub second_laid : IsPlannedOn x.taking taking effects.commit second
   pub marks : job.marks ≡ false
+  pub headed : IsHeaded job
   pub coming : to_come job
       ≡ writes_laid first old
       ∷ writes_laid second old_of_clone
@@ -129,8 +130,16 @@ pub record AreDeletionParts (md_len : ℕ) (b : Blobs) (clusters : ℕ) (ask : D
   pub behind_clone : map.get b.chains ask.clone ≡ Some (ask.clone ∷ x.old_of_clone)
   pub drafts : AreDeletionDrafts ask x.drafts
 
+-- Its drafts are made; the clusters that the delete frees are freed behind its commit, each once, and none is claimed.
+pub record IsDeletionDrafted (x : DeletionParts) : Type 0 where
+  pub going : IsDraft x.drafts.going
+  pub taking : IsDraft x.drafts.taking
+  pub begin : x.besides.begin.freed ≡ []
+  pub commit : x.besides.commit.freed ≡ []
+  pub claims : x.besides.commit.claimed ≡ []
+  pub once : AreDistinct x.besides.freed
+
 -- the job, with the pages that it needs taken for it
-pub record IsRunningDeletion (x : DeletionParts) (channel : ℕ) (old new : List Bool) (job : RunningJob) : Type 0 where
-  pub taken : List ℕ
-  pub pages : ArePagesTaken (deletion_needs x.drafts) old new taken
-  pub laid : IsDeletionLaid x.drafts x.besides channel taken x.old x.old_of_clone job
+abbrev pub IsRunningDeletion : DeletionParts → ℕ → List Bool → List Bool → RunningJob → Type 0
+IsRunningDeletion x channel = IsOnPages (deletion_needs x.drafts)
+    (λ taken. IsDeletionLaid x.drafts x.besides channel taken x.old x.old_of_clone)

@@ -1,5 +1,5 @@
 -- The begin of an insert: what it starts from, and what it comes to.
-use Rattle.std.specs.Prelude.{◌≡◌, ℕ, List, Option, None, Some, Result, IfOk}
+use Rattle.std.specs.Prelude.{◌≡◌, ℕ, List, Option, None, Result, IfOk}
 use Rattle.page_disk.specs.declared.disk.PageDisk.{Ghosts}
 use Rattle.blob_meta.specs.declared.meta.Meta.{Meta}
 use Rattle.store_model.specs.Cases.{Kind}

@@ -1,4 +1,5 @@
 pub mod Begins
+pub mod JobBegins
 pub mod Alone
 pub mod Repairs
 pub mod Inserts

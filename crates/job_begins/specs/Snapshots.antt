@@ -17,9 +17,9 @@ use Rattle.running_store.specs.declared.job.Serves.TheVariants as whom
 use Rattle.running_store.specs.declared.job.Work.TheVariants as work
 use Rattle.running_store.specs.declared.replacements.Planned.{Planned}
 use Rattle.job_begins.specs.Begins.{needed, no_effects, IsFreshHead}
-use Rattle.job_begins.specs.Drafts.{IsDraftOf, IsPlannedOn}
+use Rattle.job_begins.specs.Drafts.{IsDraft, IsDraftOf, IsPlannedOn}
 use Rattle.job_begins.specs.ListJobs.{effects_in}
-use Rattle.job_begins.specs.JobPages.{ArePagesTaken}
+use Rattle.job_begins.specs.JobPages.{IsOnPages}
 use Rattle.job_begins.specs.declared.asking.SnapshotAsk.{SnapshotAsk}
 use Rattle.job_begins.specs.declared.snapshot_parts.SnapshotDrafts.{SnapshotDrafts}
 use Rattle.job_begins.specs.declared.snapshot_parts.SnapshotEffects.{SnapshotEffects}
@@ -48,6 +48,13 @@ pub record AreSnapshotDrafts (ask : SnapshotAsk) (x : SnapshotDrafts) : Type 0 w
   pub filled : IsDraftOf ask.head ask.filled x.filled
   pub emptied : IsDraftOf ask.of ask.emptied x.emptied
   pub made : IsDraftOf ask.head ask.made x.made
+
+-- They are drafts, each.
+pub record AreDrafted (x : SnapshotDrafts) : Type 0 where
+  pub begun : IsDraft x.begun
+  pub filled : IsDraft x.filled
+  pub emptied : IsDraft x.emptied
+  pub made : IsDraft x.made
 
 -- how many pages they take, of which the first one's head is new
 abbrev pub snapshot_needs : SnapshotDrafts → ℕ
@@ -124,7 +131,6 @@ pub record AreSnapshotParts (b : Blobs) (ask : SnapshotAsk) (x : SnapshotParts) 
   pub drafts : AreSnapshotDrafts ask x.drafts
 
 -- the job, with the pages that it needs taken for it
-pub record IsRunningSnapshot (x : SnapshotParts) (channel : ℕ) (old new : List Bool) (job : RunningJob) : Type 0 where
-  pub taken : List ℕ
-  pub pages : ArePagesTaken (snapshot_needs x.drafts) old new taken
-  pub laid : IsSnapshotLaid x.drafts x.besides channel taken x.old job
+abbrev pub IsRunningSnapshot : SnapshotParts → ℕ → List Bool → List Bool → RunningJob → Type 0
+IsRunningSnapshot x channel = IsOnPages (snapshot_needs x.drafts)
+    (λ taken. IsSnapshotLaid x.drafts x.besides channel taken x.old)

@@ -1,11 +1,12 @@
 //! The clusters of a blob that no other blob has.
 
 ghost use Rattle.std.specs.Prelude.{◌≡◌, ◌↔◌, ◌<◌, ℕ, true, length, option_copied, IfOk};
+ghost use Rattle.std.specs.FinMap as map;
 ghost use Rattle.bit_array.specs.Bits.{is_in};
 ghost use Rattle.blob_meta.specs.declared.meta.Meta.{Meta as AMeta};
 ghost use Rattle.blob_meta.specs.Faults.{clusters_held};
 ghost use Rattle.md_chain.specs.Chain.{is_among};
-ghost use Rattle.job_begins.specs.Alone.{HaveRoom, IsMappedBeside, IsMissing};
+ghost use Rattle.job_begins.specs.Alone.{AreChained, HaveRoom, IsMappedBeside, IsMissing};
 ghost use Rattle.running_store.specs.StoreView.{base_of};
 ghost use Rattle.store_model.specs.Places.{all_set, AreDistinct};
 
@@ -54,16 +55,20 @@ fn add_at<D>(clusters: &mut Bits, running: &Running<D>, head: u32)
 
 /// The clusters of all blobs but that at a head.
 pub(crate) fn clusters_beside<D>(running: &Running<D>, head: u32) -> Result<Bits, Memory>
-    requires { HaveRoom (base_of running.now.metas running.now.marked) (length running.now.clusters.bits) }
+    requires room { HaveRoom (base_of running.now.metas running.now.marked) (length running.now.clusters.bits) }
+    requires chained { AreChained (base_of running.now.metas running.now.marked) (map.get running.now.chains) }
     ensures count { IfOk result (λ bits. length bits ≡ length running.now.clusters.bits) }
     ensures are { IfOk result (λ bits. (c : ℕ) → (is_in bits c ≡ true)
         ↔ IsMappedBeside running.now.sup.md_len (base_of running.now.metas running.now.marked) head c) }
 {
     let mut clusters = Bits::new(running.alloc, running.clusters.bits().len())?;
-    for other in 0..running.sup.md_len {
+    let md_len = running.sup.md_len;
+    let mut from = 0;
+    while let Some(other) = running.chains.next_below(from, md_len) {
         if other != head {
             add_at(&mut clusters, running, other);
         }
+        from = other + 1;
     }
     Ok(clusters)
 }

@@ -7,14 +7,14 @@ ghost use Rattle.store_model.specs.Cases as kind;
 ghost use Rattle.job_begins.specs.declared.begin.BeginTurn.TheVariants.{Began, Logged};
 ghost use Rattle.job_begins.specs.Begins.{row_begun, with_begun, AsksToWrite, BeginsOrNot, IsJobOf};
 ghost use Rattle.job_begins.specs.Asks.{IsAskedAs};
+ghost use Rattle.job_begins.specs.JobBegins.{CanBegin};
 ghost use Rattle.running_store.specs.Jobs.{IsHeaded};
 ghost use Rattle.running_store.specs.RunningState.{IsRunning};
 ghost use Rattle.running_store.specs.TurnMade.{TurnMade};
 ghost use Rattle.running_store.specs.Blobs.{blobs_of, WillBeKept};
 ghost use Rattle.running_store.specs.Running.{view_of, InOrder};
-ghost use Rattle.blob_meta.specs.Repairs.{HasNoMarks};
 ghost use Rattle.store_model.specs.Repairing.{IsRepaired};
-ghost use Rattle.running_store.specs.StoreView.{base_of, rows_of, state_of};
+ghost use Rattle.running_store.specs.StoreView.{rows_of, state_of};
 ghost use Rattle.running_store.specs.Steps.{Asks, IsPostedAt, OnlyRow};
 
 use crate::asking::{Ask, ask_of};
@@ -41,17 +41,9 @@ pub enum BeginTurn {
 /// instead, and nothing else changes: as `NoPage` where fewer pages are clear than the job takes; as `Full` where pages
 /// are enough, and fewer clusters are clear than it has slots of zeros; or as `Memory`.
 fn begin<D: PageDisk>(running: &mut Running<D>, channel: u8, ask: Ask) -> BeginTurn
-    requires order { InOrder D.PageDisk running.old }
-    requires faultless { IsFaultless running.old.sup }
-    requires channel { channel < 16 }
-    requires posted { IsPostedAt (view_of running.old) channel }
-    requires unfilled { running.old.filling ≢ Some channel }
+    requires can { CanBegin D.PageDisk running.old channel }
     requires asks { Asks (view_of running.old) channel
         (λ command. IsAskedAs (state_of D.PageDisk (view_of running.old)) command ask) }
-    requires running { IsRunning (state_of D.PageDisk (view_of running.old)) }
-    requires runs { running.old.stopped ≡ None }
-    requires no_job { running.old.job ≡ None }
-    requires unmarked { HasNoMarks (base_of running.old.metas running.old.marked) }
     ensures began { result ≡ Began → TurnMade D.PageDisk (view_of running.old) (view_of running.new) kind.begins }
     ensures logged { result ≡ Logged → TurnMade D.PageDisk (view_of running.old) (view_of running.new) kind.refuses }
     ensures row { OnlyRow running.old.rows.items running.new.rows.items channel
@@ -78,17 +70,9 @@ fn job_asked<D: PageDisk>(
     channel: u8,
     ask: Ask,
 ) -> Result<RunningJob, Reply>
-    requires order { InOrder D.PageDisk running.old }
-    requires faultless { IsFaultless running.old.sup }
-    requires channel { channel < 16 }
-    requires posted { IsPostedAt (view_of running.old) channel }
-    requires unfilled { running.old.filling ≢ Some channel }
+    requires can { CanBegin D.PageDisk running.old channel }
     requires asks { Asks (view_of running.old) channel
         (λ command. IsAskedAs (state_of D.PageDisk (view_of running.old)) command ask) }
-    requires running { IsRunning (state_of D.PageDisk (view_of running.old)) }
-    requires runs { running.old.stopped ≡ None }
-    requires no_job { running.old.job ≡ None }
-    requires unmarked { HasNoMarks (base_of running.old.metas running.old.marked) }
     ensures begins { IfOk result (λ job. Begins (state_of D.PageDisk (view_of running.old))
         (state_of D.PageDisk (with_begun (view_of running.new) channel job))) }
     ensures unmarked { IfOk result (λ job. job.marks ≡ false) }
@@ -120,17 +104,9 @@ fn job_for<D: PageDisk>(
     mut new: Meta,
     zeros: &SlotList,
 ) -> Result<RunningJob, Reply>
-    requires order { InOrder D.PageDisk running.old }
-    requires faultless { IsFaultless running.old.sup }
-    requires channel { channel < 16 }
-    requires posted { IsPostedAt (view_of running.old) channel }
-    requires unfilled { running.old.filling ≢ Some channel }
+    requires can { CanBegin D.PageDisk running.old channel }
     requires asks { Asks (view_of running.old) channel
         (λ command. AsksToWrite (state_of D.PageDisk (view_of running.old)) command head new zeros.now) }
-    requires running { IsRunning (state_of D.PageDisk (view_of running.old)) }
-    requires runs { running.old.stopped ≡ None }
-    requires no_job { running.old.job ≡ None }
-    requires unmarked { HasNoMarks (base_of running.old.metas running.old.marked) }
     ensures begins { IfOk result (λ job. Begins (state_of D.PageDisk (view_of running.old))
         (state_of D.PageDisk (with_begun (view_of running.new) channel job))) }
     ensures unmarked { IfOk result (λ job. job.marks ≡ false) }

@@ -3,19 +3,18 @@
 
 ghost use Rattle.std.specs.Prelude.{◌≡◌, ◌≢◌, ◌<◌, ◌-◌, ◌^◌, ℕ, [], true, false, All, length, None, Some, IfErr, IfOk};
 ghost use Rattle.std.specs.Prelude.{OnErr};
-ghost use Rattle.super_block.specs.Faults.{IsFaultless};
+ghost use Rattle.std.specs.FinMap as map;
 ghost use Rattle.blob_meta.specs.Faults.{clusters_held};
-ghost use Rattle.blob_meta.specs.Repairs.{HasNoMarks};
-ghost use Rattle.job_begins.specs.Alone.{HaveRoom};
+ghost use Rattle.job_begins.specs.Alone.{AreChained, HaveRoom};
 ghost use Rattle.job_begins.specs.Begins.{with_begun, HasChain};
+ghost use Rattle.job_begins.specs.JobBegins.{CanBegin};
 ghost use Rattle.job_begins.specs.Deletions.{AreDeletionEffects, AreDeletionParts, AsksToDelete};
 ghost use Rattle.md_chain.specs.Chain.{is_among};
 ghost use Rattle.md_chain.specs.Packing.{FitsPage};
 ghost use Rattle.running_store.specs.Blobs.{blobs_of, WillBeKept};
 ghost use Rattle.running_store.specs.Jobs.{IsHeaded};
 ghost use Rattle.running_store.specs.Running.{view_of, InOrder};
-ghost use Rattle.running_store.specs.Steps.{Asks, IsPostedAt};
-ghost use Rattle.running_store.specs.RunningState.{IsRunning};
+ghost use Rattle.running_store.specs.Steps.{Asks};
 ghost use Rattle.running_store.specs.StoreView.{base_of, state_of};
 ghost use Rattle.store_model.specs.Cases.{Begins, IsRefusedAtBegin};
 
@@ -23,6 +22,7 @@ use crate::alone::{add_clusters, clusters_beside, missing};
 use crate::asking::DeletionAsk;
 use crate::deletion_parts::{DeletionEffects, DeletionParts};
 use crate::preparing::places_behind;
+use crate::taking::job_on_pages;
 use out_of_memory::Memory;
 use page_disk::PageDisk;
 use running_store::{Commit, Effects, EntryChange, Rooms, Running, RunningJob, place};
@@ -33,6 +33,7 @@ use volume_model::{PlaceList, Reply};
 /// (Want of memory too if no generation is left.)
 fn effects_of<D>(running: &Running<D>, ask: &DeletionAsk) -> Result<DeletionEffects, Memory>
     requires room { HaveRoom (base_of running.now.metas running.now.marked) (length running.now.clusters.bits) }
+    requires chained { AreChained (base_of running.now.metas running.now.marked) (map.get running.now.chains) }
     requires taking { (c : ℕ) → is_among c (clusters_held ask.now.taking.map) ≡ true
         → c < length running.now.clusters.bits }
     requires going { (c : ℕ) → is_among c (clusters_held ask.now.going.map) ≡ true
@@ -93,6 +94,7 @@ fn parts_of<D>(running: &Running<D>, ask: DeletionAsk) -> Result<DeletionParts, 
     requires chain { HasChain running.now.chains ask.of }
     requires chain_of_clone { HasChain running.now.chains ask.clone }
     requires room { HaveRoom (base_of running.now.metas running.now.marked) (length running.now.clusters.bits) }
+    requires chained { AreChained (base_of running.now.metas running.now.marked) (map.get running.now.chains) }
     requires taking_low { (c : ℕ) → is_among c (clusters_held ask.taking.map) ≡ true
         → c < length running.now.clusters.bits }
     requires going_low { (c : ℕ) → is_among c (clusters_held ask.going.map) ≡ true
@@ -121,17 +123,9 @@ pub(crate) fn deletion_job<D: PageDisk>(
     channel: u8,
     ask: DeletionAsk,
 ) -> Result<RunningJob, Reply>
-    requires order { InOrder D.PageDisk running.old }
-    requires faultless { IsFaultless running.old.sup }
-    requires channel { channel < 16 }
-    requires posted { IsPostedAt (view_of running.old) channel }
-    requires unfilled { running.old.filling ≢ Some channel }
+    requires can { CanBegin D.PageDisk running.old channel }
     requires asks { Asks (view_of running.old) channel
         (λ command. AsksToDelete (state_of D.PageDisk (view_of running.old)) command ask) }
-    requires running { IsRunning (state_of D.PageDisk (view_of running.old)) }
-    requires runs { running.old.stopped ≡ None }
-    requires no_job { running.old.job ≡ None }
-    requires unmarked { HasNoMarks (base_of running.old.metas running.old.marked) }
     ensures begins { IfOk result (λ job. Begins (state_of D.PageDisk (view_of running.old))
         (state_of D.PageDisk (with_begun (view_of running.new) channel job))) }
     ensures unmarked { IfOk result (λ job. job.marks ≡ false) }
@@ -145,5 +139,5 @@ pub(crate) fn deletion_job<D: PageDisk>(
     ensures order { InOrder D.PageDisk running.new }
 {
     let parts = parts_of(running, ask)?;
-    parts.job(running.alloc, &mut running.pages, channel)
+    job_on_pages(running.alloc, &mut running.pages, parts, channel)
 }

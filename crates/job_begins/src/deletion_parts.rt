@@ -1,14 +1,13 @@
-//! What the job that deletes a blob with one clone is made of, and the job on its pages.
+//! What the job that deletes a blob with one clone is made of, and how it is laid on its pages.
 
 use crate::drafts::Draft;
 use crate::preparing::places_from;
-use crate::taking::take_pages;
+use crate::taking::JobParts;
 use out_of_memory::Memory;
-use pools::PagePool;
-use running_store::{Change, Effects, Erasure, LaidReplacement, RunningJob, Serves, clear_places};
+use running_store::{Change, Effects, Erasure, LaidReplacement, RunningJob, Serves};
 use std::alloc::Global;
 use std::collections::VecDeque;
-use volume_model::{PlaceList, Reply};
+use volume_model::PlaceList;
 
 /// What the three replacements do besides: of the last one, the clusters that no blob has any more.
 pub(crate) struct DeletionEffects {
@@ -145,57 +144,23 @@ impl Drop for DeletionParts {
     }
 }
 
-impl DeletionParts {
-    ghost use Rattle.std.specs.Prelude.{◌≡◌, [], IfErr, IfOk, OnErr, length};
-    ghost use Rattle.job_begins.specs.Deletions.{deletion_needs, IsRunningDeletion, IsDeletionLaid};
-    ghost use Rattle.job_begins.specs.Drafts.{IsDraft};
-    ghost use Rattle.job_begins.specs.JobPages.{IsShort};
-    ghost use Rattle.running_store.specs.Jobs.{IsHeaded};
-    ghost use Rattle.store_model.specs.Places.{AreDistinct};
+impl JobParts for DeletionParts {
+    ghost use Rattle.std.specs.Prelude.{⊤};
+    ghost use Rattle.job_begins.specs.Deletions.{deletion_needs, IsDeletionDrafted, IsDeletionLaid};
 
-    /// The job, once its pages are taken. `Err` says what it lacks, and nothing is taken then.
-    pub(crate) fn job(
-        self,
-        alloc: Global,
-        pages: &mut PagePool,
-        channel: u8,
-    ) -> Result<RunningJob, Reply>
-        requires going { IsDraft self.drafts.going }
-        requires taking { IsDraft self.drafts.taking }
-        requires begin { self.besides.begin.freed ≡ [] }
-        requires commit { self.besides.commit.freed ≡ [] }
-        requires claims { self.besides.commit.claimed ≡ [] }
-        requires once { AreDistinct self.besides.freed }
-        requires unclaimed { pages.old.claims ≡ [] }
-        ensures job { IfOk result (IsRunningDeletion self channel pages.old.bits pages.new.bits) }
-        ensures headed { IfOk result IsHeaded }
-        ensures lack { IfErr result (IsShort (deletion_needs self.drafts) pages.old.bits) }
-        ensures same { OnErr result (pages.new ≡ pages.old) }
-        ensures unclaimed { pages.new.claims ≡ [] }
-    {
-        let taken = take_pages(alloc, pages, self.drafts.needs())?;
-        match self.lay(alloc, channel, taken.as_slice()) {
-            Ok(job) => Ok(job),
-            Err(Memory) => {
-                clear_places(pages, &taken);
-                Err(Reply::Memory)
-            }
-        }
+    ghost is_drafted = { IsDeletionDrafted };
+
+    ghost heads_in = { λ _ _. ⊤ };
+
+    ghost page_count = { λ x. deletion_needs x.drafts };
+
+    ghost is_laid = { λ x channel taken. IsDeletionLaid x.drafts x.besides channel taken x.old x.old_of_clone };
+
+    fn needs(&self) -> u64 {
+        self.drafts.needs()
     }
 
-    /// The job on these places, which are taken for it.
-    fn lay(self, alloc: Global, channel: u8, taken: &[u32]) -> Result<RunningJob, Memory>
-        requires going { IsDraft self.drafts.going }
-        requires taking { IsDraft self.drafts.taking }
-        requires count { length taken.now ≡ deletion_needs self.drafts }
-        requires begin { self.besides.begin.freed ≡ [] }
-        requires commit { self.besides.commit.freed ≡ [] }
-        requires claims { self.besides.commit.claimed ≡ [] }
-        requires once { AreDistinct self.besides.freed }
-        ensures laid { IfOk result (IsDeletionLaid self.drafts self.besides channel taken.now self.old
-            self.old_of_clone) }
-        ensures headed { IfOk result IsHeaded }
-    {
+    fn lay(self, alloc: Global, channel: u8, taken: &[u32]) -> Result<RunningJob, Memory> {
         let DeletionParts {
             besides,
             old,

@@ -1,16 +1,15 @@
 //! The begin of a job that erases a blob and replaces no other: the delete of a volume without clones.
 
-ghost use Rattle.std.specs.Prelude.{◌≡◌, ◌≢◌, ◌<◌, false, None, Some, IfOk};
-ghost use Rattle.blob_meta.specs.Repairs.{HasNoMarks};
+ghost use Rattle.std.specs.Prelude.{◌≡◌, ◌<◌, false, None, Some, IfOk};
 ghost use Rattle.inflate_delete.specs.DeleteJobs.{erase_job};
 ghost use Rattle.job_begins.specs.Asks.{IsAskedFor};
 ghost use Rattle.job_begins.specs.Begins.{with_begun};
+ghost use Rattle.job_begins.specs.JobBegins.{CanBegin};
 ghost use Rattle.running_store.specs.Blobs.{blobs_of, WillBeKept};
 ghost use Rattle.running_store.specs.Jobs.{IsHeaded};
-ghost use Rattle.running_store.specs.Running.{view_of, InOrder};
-ghost use Rattle.running_store.specs.Steps.{Asks, IsPostedAt};
-ghost use Rattle.running_store.specs.RunningState.{IsRunning};
-ghost use Rattle.running_store.specs.StoreView.{base_of, state_of};
+ghost use Rattle.running_store.specs.Running.{view_of};
+ghost use Rattle.running_store.specs.Steps.{Asks};
+ghost use Rattle.running_store.specs.StoreView.{state_of};
 ghost use Rattle.store_model.specs.Cases.{Begins};
 
 use crate::alone::{base_at, clusters_beside, missing};
@@ -27,16 +26,9 @@ pub(crate) fn erasing_job<D: PageDisk>(
     channel: u8,
     head: u32,
 ) -> Result<RunningJob, Memory>
-    requires order { InOrder D.PageDisk running.now }
-    requires channel { channel < 16 }
-    requires posted { IsPostedAt (view_of running.now) channel }
-    requires unfilled { running.now.filling ≢ Some channel }
+    requires can { CanBegin D.PageDisk running.now channel }
     requires asks { Asks (view_of running.now) channel
         (λ command. IsAskedFor (state_of D.PageDisk (view_of running.now)) command (erase_job head)) }
-    requires running { IsRunning (state_of D.PageDisk (view_of running.now)) }
-    requires runs { running.now.stopped ≡ None }
-    requires no_job { running.now.job ≡ None }
-    requires unmarked { HasNoMarks (base_of running.now.metas running.now.marked) }
     ensures begins { IfOk result (λ job. Begins (state_of D.PageDisk (view_of running.now))
         (state_of D.PageDisk (with_begun (view_of running.now) channel job))) }
     ensures unmarked { IfOk result (λ job. job.marks ≡ false) }

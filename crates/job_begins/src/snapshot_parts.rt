@@ -1,13 +1,12 @@
-//! What a snapshot's job is made of, and the job on its pages.
+//! What a snapshot's job is made of, and how it is laid on its pages.
 
 use crate::drafts::{Draft, LaidDraft};
-use crate::taking::take_pages;
+use crate::taking::JobParts;
 use out_of_memory::Memory;
-use pools::PagePool;
-use running_store::{Effects, RunningJob, Serves, clear_places};
+use running_store::{Effects, RunningJob, Serves};
 use std::alloc::Global;
 use std::collections::VecDeque;
-use volume_model::{PlaceList, Reply};
+use volume_model::PlaceList;
 
 /// What the first replacement and the commit do besides.
 pub(crate) struct SnapshotEffects {
@@ -56,15 +55,11 @@ pub(crate) struct SnapshotDrafts {
 
 impl SnapshotDrafts {
     ghost use Rattle.std.specs.Prelude.{◌≡◌, ◌∷◌, List, ℕ, length};
-    ghost use Rattle.job_begins.specs.Drafts.{IsDraft};
-    ghost use Rattle.job_begins.specs.Snapshots.{snapshot_needs, ArePlacesOf};
+    ghost use Rattle.job_begins.specs.Snapshots.{snapshot_needs, AreDrafted, ArePlacesOf};
 
     /// How many pages the job takes.
     fn needs(&self) -> u64
-        requires begun { IsDraft self.now.begun }
-        requires filled { IsDraft self.now.filled }
-        requires emptied { IsDraft self.now.emptied }
-        requires made { IsDraft self.now.made }
+        requires { AreDrafted self.now }
         ensures { result ≡ snapshot_needs self.now }
     {
         u64::from(self.begun.needs(true))
@@ -75,10 +70,7 @@ impl SnapshotDrafts {
 
     /// The places behind the head of each, of those that are taken: the first is the new blob's head.
     fn places<'a>(&self, taken: &'a [u32]) -> SnapshotPlaces<'a>
-        requires begun { IsDraft self.now.begun }
-        requires filled { IsDraft self.now.filled }
-        requires emptied { IsDraft self.now.emptied }
-        requires made { IsDraft self.now.made }
+        requires drafted { AreDrafted self.now }
         requires heads { (rest : List ℕ) × (taken.now ≡ self.now.begun.head ∷ rest) }
         requires count { length taken.now ≡ snapshot_needs self.now }
         ensures { ArePlacesOf self.now taken.now result.begun.now result.filled.now result.emptied.now result.made.now }
@@ -166,51 +158,24 @@ impl Drop for SnapshotParts {
     }
 }
 
-impl SnapshotParts {
-    ghost use Rattle.std.specs.Prelude.{◌≡◌, ◌∷◌, [], List, ℕ, IfErr, IfOk, OnErr, length};
+impl JobParts for SnapshotParts {
     ghost use Rattle.job_begins.specs.Begins.{IsFreshHead};
-    ghost use Rattle.job_begins.specs.Drafts.{IsDraft};
-    ghost use Rattle.job_begins.specs.Snapshots.{snapshot_needs, IsRunningSnapshot, IsSnapshotLaid};
-    ghost use Rattle.job_begins.specs.JobPages.{IsShort};
+    ghost use Rattle.job_begins.specs.Snapshots.{snapshot_needs, AreDrafted, IsSnapshotLaid};
 
-    /// The job, once its pages are taken. `Err` says what it lacks, and nothing is taken then.
-    pub(crate) fn job(
-        self,
-        alloc: Global,
-        pages: &mut PagePool,
-        channel: u8,
-    ) -> Result<RunningJob, Reply>
-        requires begun { IsDraft self.drafts.begun }
-        requires filled { IsDraft self.drafts.filled }
-        requires emptied { IsDraft self.drafts.emptied }
-        requires made { IsDraft self.drafts.made }
-        requires next { IsFreshHead pages.old.bits self.drafts.begun.head }
-        requires unclaimed { pages.old.claims ≡ [] }
-        ensures job { IfOk result (IsRunningSnapshot self channel pages.old.bits pages.new.bits) }
-        ensures lack { IfErr result (IsShort (snapshot_needs self.drafts) pages.old.bits) }
-        ensures same { OnErr result (pages.new ≡ pages.old) }
-        ensures unclaimed { pages.new.claims ≡ [] }
-    {
-        let taken = take_pages(alloc, pages, self.drafts.needs())?;
-        match self.lay(alloc, channel, taken.as_slice()) {
-            Ok(job) => Ok(job),
-            Err(Memory) => {
-                clear_places(pages, &taken);
-                Err(Reply::Memory)
-            }
-        }
+    ghost is_drafted = { λ x. AreDrafted x.drafts };
+
+    ghost heads_in = { λ x pages. IsFreshHead pages x.drafts.begun.head };
+
+    ghost page_count = { λ x. snapshot_needs x.drafts };
+
+    ghost is_laid = { λ x channel taken. IsSnapshotLaid x.drafts x.besides channel taken x.old };
+
+    fn needs(&self) -> u64 {
+        self.drafts.needs()
     }
 
-    /// The job on these places, which are taken for it, the new blob's head first: it freezes the volume.
-    fn lay(self, alloc: Global, channel: u8, taken: &[u32]) -> Result<RunningJob, Memory>
-        requires begun { IsDraft self.drafts.begun }
-        requires filled { IsDraft self.drafts.filled }
-        requires emptied { IsDraft self.drafts.emptied }
-        requires made { IsDraft self.drafts.made }
-        requires heads { (rest : List ℕ) × (taken.now ≡ self.drafts.begun.head ∷ rest) }
-        requires count { length taken.now ≡ snapshot_needs self.drafts }
-        ensures { IfOk result (IsSnapshotLaid self.drafts self.besides channel taken.now self.old) }
-    {
+    /// The new blob's head is the first of the pages; the job freezes the volume.
+    fn lay(self, alloc: Global, channel: u8, taken: &[u32]) -> Result<RunningJob, Memory> {
         let SnapshotParts {
             besides,
             old,

@@ -2,22 +2,21 @@
 
 ghost use Rattle.std.specs.Prelude.{◌≡◌, ◌≢◌, ◌<◌, ◌+◌, ◌^◌, [], All, false, None, Some, IfErr, IfOk, OnErr};
 ghost use Rattle.std.specs.FinMap as map;
-ghost use Rattle.super_block.specs.Faults.{IsFaultless};
-ghost use Rattle.blob_meta.specs.Repairs.{HasNoMarks};
 ghost use Rattle.md_chain.specs.Packing.{FitsPage};
 ghost use Rattle.job_begins.specs.Begins.{with_begun, HasChain};
+ghost use Rattle.job_begins.specs.JobBegins.{CanBegin};
 ghost use Rattle.job_begins.specs.Snapshots.{AreSnapshotEffects, AreSnapshotParts, AsksToSnapshot};
 ghost use Rattle.running_store.specs.Blobs.{blobs_of, WillBeKept};
 ghost use Rattle.running_store.specs.Jobs.{IsHeaded};
 ghost use Rattle.running_store.specs.Running.{view_of, InOrder};
-ghost use Rattle.running_store.specs.Steps.{Asks, IsPostedAt};
-ghost use Rattle.running_store.specs.RunningState.{IsRunning};
-ghost use Rattle.running_store.specs.StoreView.{base_of, state_of};
+ghost use Rattle.running_store.specs.Steps.{Asks};
+ghost use Rattle.running_store.specs.StoreView.{state_of};
 ghost use Rattle.store_model.specs.Cases.{Begins, IsRefusedAtBegin};
 
 use crate::asking::SnapshotAsk;
 use crate::preparing::places_behind;
 use crate::snapshot_parts::{SnapshotEffects, SnapshotParts};
+use crate::taking::job_on_pages;
 use out_of_memory::Memory;
 use page_disk::PageDisk;
 use running_store::{Commit, Effects, EntryChange, Rooms, Running, RunningJob, place};
@@ -102,17 +101,9 @@ pub(crate) fn snapshot_job<D: PageDisk>(
     channel: u8,
     ask: SnapshotAsk,
 ) -> Result<RunningJob, Reply>
-    requires order { InOrder D.PageDisk running.old }
-    requires faultless { IsFaultless running.old.sup }
-    requires channel { channel < 16 }
-    requires posted { IsPostedAt (view_of running.old) channel }
-    requires unfilled { running.old.filling ≢ Some channel }
+    requires can { CanBegin D.PageDisk running.old channel }
     requires asks { Asks (view_of running.old) channel
         (λ command. AsksToSnapshot (state_of D.PageDisk (view_of running.old)) command ask) }
-    requires running { IsRunning (state_of D.PageDisk (view_of running.old)) }
-    requires runs { running.old.stopped ≡ None }
-    requires no_job { running.old.job ≡ None }
-    requires unmarked { HasNoMarks (base_of running.old.metas running.old.marked) }
     ensures begins { IfOk result (λ job. Begins (state_of D.PageDisk (view_of running.old))
         (state_of D.PageDisk (with_begun (view_of running.new) channel job))) }
     ensures unmarked { IfOk result (λ job. job.marks ≡ false) }
@@ -127,7 +118,7 @@ pub(crate) fn snapshot_job<D: PageDisk>(
 {
     let of = ask.of;
     let parts = parts_of(running, ask)?;
-    let job = parts.job(running.alloc, &mut running.pages, channel)?;
+    let job = job_on_pages(running.alloc, &mut running.pages, parts, channel)?;
     running.guards.freeze(of);
     Ok(job)
 }

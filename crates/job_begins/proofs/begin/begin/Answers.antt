@@ -18,7 +18,11 @@ pub returns-in-Ok-clause-began : goal.returns-in-Ok-clause-began
 returns-in-Ok-clause-began g c = λ _.
     let d = g.D.PageDisk in
     let q = view_of c.job_asked.new.running in
-    let low : c.args.channel < length q.rows = omega (arith, c.requires.channel, c.job_asked.ensures.order.seventeen) in
+    let low : c.args.channel < length q.rows = omega (
+      arith,
+      c.requires.can.within,
+      c.job_asked.ensures.order.seventeen,
+    ) in
     let row = c.serve.ensures ∙ ap (λ (r : Row). record r { stage = InJob })
     (indexed_row q.rows c.args.channel low c.index_mut.result.now c.index_mut.ensures.value) in (
       subst (λ (r : Row). Begins (state_of d (view_of c.args.running.now)) (state_of d (record q {
@@ -40,7 +44,7 @@ pub returns-in-Ok-clause-order : goal.returns-in-Ok-clause-order
 returns-in-Ok-clause-order g c =
     let q = c.job_asked.new.running in
     let order = c.job_asked.ensures.order in
-    let low : c.args.channel < length q.rows.items = omega (arith, c.requires.channel, order.seventeen) in
+    let low : c.args.channel < length q.rows.items = omega (arith, c.requires.can.within, order.seventeen) in
     order_kept g.D.PageDisk q order refl refl (room_with g.D.PageDisk q order c.args.channel c.serve.new.self
     c.index_mut.result.now low (ap (λ (r : Row). length r.left) (sym c.index_mut.ensures.value)
     ∙ sym (ap (λ (r : Row). length r.left) c.serve.ensures))) order.no_page order.no_cluster
@@ -50,10 +54,10 @@ returns-in-Ok-clause-order g c =
 pub returns-in-Err-clause-logged : goal.returns-in-Err-clause-logged
 returns-in-Err-clause-logged g c = λ _.
     let p = view_of c.args.running.now in
-    let posted = c.requires.posted in
+    let posted = c.requires.can.posted in
     let waits = posted.waits in
-    let low : c.args.channel < length p.rows = omega (arith, c.requires.channel, c.requires.order.seventeen) in
-    refused g.D.PageDisk p c.args.channel low posted c.requires.runs c.requires.unfilled c.in-Err.reply
+    let low : c.args.channel < length p.rows = omega (arith, c.requires.can.within, c.requires.can.order.seventeen) in
+    refused g.D.PageDisk p c.args.channel low posted c.requires.can.runs c.requires.can.unfilled c.in-Err.reply
     (c.in-Err.ensures.lack waits.command waits.rest (ap (λ (r : Row). r.left) waits.row))
     (view_of c.job_asked.new.running) (view_of c.log.new.running)
     (ap (λ (r : Running g.row.D.Denot). view_of r) c.in-Err.ensures.same) c.log.ensures.logged

@@ -42,10 +42,22 @@ asked_as p command job (ask.Snapshots x) asks is = record {
 }
 asked_as p command job ask.Other asks is = (job, record { commit = asks.commit; asked = asks.asked })
 
-pub begin-requires-clause-unmarked : goal.begin-requires-clause-unmarked
-begin-requires-clause-unmarked g c =
-    repaired_unmarked (state_of g.D.PageDisk (view_of c.args.running.now)) c.requires.repaired
-    (none_of c.args.running.now.stopped (sym c.if-is_some.ensures)) (ap (λ o. option_map job_seen o) c.requires.no_job)
+pub begin-requires-clause-can : goal.begin-requires-clause-can
+begin-requires-clause-can g c =
+    let x = c.requires in
+    let runs = none_of c.args.running.now.stopped (sym c.if-is_some.ensures) in
+    record {
+      within = x.channel;
+      order = x.order;
+      faultless = x.faultless;
+      posted = x.posted;
+      unfilled = x.unfilled;
+      running = x.running;
+      runs = runs;
+      no_job = x.no_job;
+      unmarked = repaired_unmarked (state_of g.D.PageDisk (view_of c.args.running.now)) x.repaired runs
+          (ap (λ o. option_map job_seen o) x.no_job);
+    }
 
 pub begin-requires-clause-asks : goal.begin-requires-clause-asks
 begin-requires-clause-asks g c command rest left =

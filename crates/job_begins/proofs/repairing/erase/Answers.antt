@@ -9,7 +9,7 @@ use Rattle.running_store.specs.Running.{view_of}
 use Rattle.running_store.specs.StoreView.{base_of, state_of}
 use Rattle.running_store.specs.declared.job.Serves.TheVariants as whom
 use Rattle.running_store.specs.declared.replacements.LaidReplacement.{LaidReplacement}
-use Rattle.job_begins.proofs.RepairBegins.{chain_there, removes, removes_to, room, room_for, some_there}
+use Rattle.job_begins.proofs.RepairBegins.{chain_there, chained, removes, removes_to, room, room_for, some_there}
 use Rattle.job_begins.proofs.repairing.erase.Goals as goal
 
 pub places_behind-requires : goal.places_behind-requires
@@ -19,9 +19,13 @@ places_behind-requires g c = λ _.
     chain_there g.D.PageDisk p c.requires.running c.requires.runs (ap (λ o. option_map job_seen o) c.requires.no_job)
     c.args.head c.requires.due c.requires.order.resolves c.requires.removed m.0 m.1
 
-pub clusters_beside-requires : goal.clusters_beside-requires
-clusters_beside-requires g c =
+pub clusters_beside-requires-clause-room : goal.clusters_beside-requires-clause-room
+clusters_beside-requires-clause-room g c =
     room g.D.PageDisk (view_of c.args.running.now) c.requires.running c.requires.runs
+
+pub clusters_beside-requires-clause-chained : goal.clusters_beside-requires-clause-chained
+clusters_beside-requires-clause-chained g c =
+    chained g.D.PageDisk (view_of c.args.running.now) c.requires.running c.requires.runs
 
 pub missing-requires : goal.missing-requires
 missing-requires g c =

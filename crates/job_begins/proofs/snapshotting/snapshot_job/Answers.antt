@@ -1,4 +1,4 @@
-use Rattle.std.proofs.Common.{◌<◌, length, sym, ap, subst, arith}
+use Rattle.std.proofs.Common.{sym, ap, subst}
 use Rattle.std.proofs.Common.{Some}
 use Rattle.std.specs.Prelude.{slice_set}
 use Rattle.std.specs.Option.{option_map}
@@ -22,28 +22,23 @@ use Rattle.job_begins.proofs.snapshotting.snapshot_job.Goals as goal
 
 pub parts_of-requires-clause-chain : goal.parts_of-requires-clause-chain
 parts_of-requires-clause-chain g c =
-    (known g.D.PageDisk c.requires.posted c.requires.running c.requires.unmarked c.requires.runs
-    (ap (λ o. option_map job_seen o) c.requires.no_job) c.requires.asks).chain
+    (known c.requires.can c.requires.asks).chain
 
 pub parts_of-requires-clause-begun : goal.parts_of-requires-clause-begun
 parts_of-requires-clause-begun g c =
-    both_fit c.args.ask.begun (known g.D.PageDisk c.requires.posted c.requires.running c.requires.unmarked
-    c.requires.runs (ap (λ o. option_map job_seen o) c.requires.no_job) c.requires.asks).begun_can
+    both_fit c.args.ask.begun (known c.requires.can c.requires.asks).begun_can
 
 pub parts_of-requires-clause-filled : goal.parts_of-requires-clause-filled
 parts_of-requires-clause-filled g c =
-    both_fit c.args.ask.filled (known g.D.PageDisk c.requires.posted c.requires.running c.requires.unmarked
-    c.requires.runs (ap (λ o. option_map job_seen o) c.requires.no_job) c.requires.asks).filled_can
+    both_fit c.args.ask.filled (known c.requires.can c.requires.asks).filled_can
 
 pub parts_of-requires-clause-emptied : goal.parts_of-requires-clause-emptied
 parts_of-requires-clause-emptied g c =
-    both_fit c.args.ask.emptied (known g.D.PageDisk c.requires.posted c.requires.running c.requires.unmarked
-    c.requires.runs (ap (λ o. option_map job_seen o) c.requires.no_job) c.requires.asks).emptied_can
+    both_fit c.args.ask.emptied (known c.requires.can c.requires.asks).emptied_can
 
 pub parts_of-requires-clause-made : goal.parts_of-requires-clause-made
 parts_of-requires-clause-made g c =
-    both_fit c.args.ask.made (known g.D.PageDisk c.requires.posted c.requires.running c.requires.unmarked
-    c.requires.runs (ap (λ o. option_map job_seen o) c.requires.no_job) c.requires.asks).made_can
+    both_fit c.args.ask.made (known c.requires.can c.requires.asks).made_can
 
 pub returns-in_err-parts-clause-lack : goal.returns-in_err-parts-clause-lack
 returns-in_err-parts-clause-lack g c =
@@ -53,47 +48,46 @@ returns-in_err-parts-clause-lack g c =
     passed_on c.from_residual.result c.from_residual.ensures.1 refused
     (λ command rest left. snapshot_memory s command c.args.ask (c.requires.asks command rest left))
 
-pub job-requires-clause-next : goal.job-requires-clause-next
-job-requires-clause-next g c =
+pub job_on_pages-requires-clause-heads : goal.job_on_pages-requires-clause-heads
+job_on_pages-requires-clause-heads g c =
     subst (IsFreshHead c.args.running.now.pages.bits) (sym c.in_ok-parts.ensures.drafts.begun.head_is)
-    (next_head g.D.PageDisk c.requires.posted c.requires.running c.requires.unmarked c.requires.runs
-    (ap (λ o. option_map job_seen o) c.requires.no_job) c.requires.asks)
+    (next_head c.requires.can c.requires.asks)
+
+pub job_on_pages-requires-clause-drafted : goal.job_on_pages-requires-clause-drafted
+job_on_pages-requires-clause-drafted g c =
+    let x = c.in_ok-parts.ensures.drafts in
+    record { begun = x.begun.draft; filled = x.filled.draft; emptied = x.emptied.draft; made = x.made.draft }
 
 pub freeze-requires : goal.freeze-requires
 freeze-requires g c =
-    numbered g.D.PageDisk c.requires.posted c.requires.running c.requires.unmarked c.requires.runs
-    (ap (λ o. option_map job_seen o) c.requires.no_job) c.requires.asks
+    numbered c.requires.can c.requires.asks
 
 pub returns-clause-begins : goal.returns-clause-begins
 returns-clause-begins g c =
     let d = g.D.PageDisk in
     let q = view_of c.args.running.now in
-    let low : c.args.channel < length q.rows = omega (arith, c.requires.channel, c.requires.order.seventeen) in
     subst (λ (y : GuardsState). Begins (state_of d q) (state_of d (record q {
       rows = slice_set q.rows c.args.channel (record (rows_of q.rows c.args.channel) { stage = InJob });
       job = Some (marked q.clean (job_seen c.in_ok-job.job));
       guards = y;
-      pages = c.job.new.pages.bits;
+      pages = c.job_on_pages.new.pages.bits;
     }))) (sym c.freeze.ensures)
-    (snapshot_begins_so d c.requires.posted c.requires.running c.requires.unmarked c.requires.runs
-    (ap (λ o. option_map job_seen o) c.requires.no_job) c.requires.asks c.in_ok-parts.parts
-    c.in_ok-parts.ensures c.job.new.pages.bits c.in_ok-job.job c.in_ok-job.ensures.job c.requires.unfilled low)
+    (snapshot_begins_so c.requires.can c.requires.asks c.in_ok-parts.parts
+    c.in_ok-parts.ensures c.job_on_pages.new.pages.bits c.in_ok-job.job c.in_ok-job.ensures.job)
 
 pub returns-clause-headed : goal.returns-clause-headed
 returns-clause-headed g c =
-    snapshot_headed g.D.PageDisk c.requires.posted c.requires.running c.requires.unmarked c.requires.runs
-    (ap (λ o. option_map job_seen o) c.requires.no_job) c.requires.asks c.in_ok-parts.parts c.in_ok-parts.ensures
-    c.job.new.pages.bits c.in_ok-job.job
+    snapshot_headed c.requires.can c.requires.asks c.in_ok-parts.parts c.in_ok-parts.ensures
+    c.job_on_pages.new.pages.bits c.in_ok-job.job
     c.in_ok-job.ensures.job
 
 pub returns-clause-kept : goal.returns-clause-kept
 returns-clause-kept g c =
     subst (λ (y : GuardsState). CanAllBeKept (record (blobs_of c.args.running.now) { guards = y })
     (to_come c.in_ok-job.job)) (sym c.freeze.ensures)
-    (snapshot_kept_so g.D.PageDisk c.requires.posted c.requires.running c.requires.unmarked c.requires.runs
-    (ap (λ o. option_map job_seen o) c.requires.no_job) c.requires.asks c.in_ok-parts.parts c.in_ok-parts.ensures
-    c.job.new.pages.bits c.in_ok-job.job
-    c.in_ok-job.ensures.job c.requires.order.resolves)
+    (snapshot_kept_so c.requires.can c.requires.asks c.in_ok-parts.parts c.in_ok-parts.ensures
+    c.job_on_pages.new.pages.bits c.in_ok-job.job
+    c.in_ok-job.ensures.job)
 
 pub returns-in_err-job-clause-lack : goal.returns-in_err-job-clause-lack
 returns-in_err-job-clause-lack g c =
@@ -101,6 +95,6 @@ returns-in_err-job-clause-lack g c =
     let refused = λ (reply : Reply). Asks (view_of c.args.running.now) c.args.channel
     (λ command. IsRefusedAtBegin s command reply) in
     passed_on c.from_residual-in_err-job.result c.from_residual-in_err-job.ensures.1 refused
-    (λ command rest left. snapshot_short s c.requires.running c.requires.unmarked c.requires.runs
-    (ap (λ o. option_map job_seen o) c.requires.no_job) command c.args.ask (c.requires.asks command rest left)
+    (λ command rest left. snapshot_short s c.requires.can.running c.requires.can.unmarked c.requires.can.runs
+    (ap (λ o. option_map job_seen o) c.requires.can.no_job) command c.args.ask (c.requires.asks command rest left)
     c.in_ok-parts.parts.drafts c.in_ok-parts.ensures.drafts c.in_err-job.field-0.0 c.in_err-job.ensures.lack)

@@ -1,53 +1,48 @@
-use Rattle.std.proofs.Common.{◌<◌, ◌∙◌, ℕ, true, List, length, sym, subst, arith}
-use Rattle.std.proofs.Common.{drop}
-use Rattle.md_chain.proofs.Fitting.{some_parts}
+use Rattle.std.proofs.Common.{◌∙◌, ℕ, List, sym, subst}
 use Rattle.store_model.proofs.Sets.{are_distinct}
 use Rattle.job_begins.specs.JobPages.{ArePagesTaken, IsShort}
-use Rattle.job_begins.specs.Snapshots.{snapshot_needs, IsSnapshotLaid}
-use Rattle.job_begins.proofs.JobPlaces.{pool_again, taken_in_use, taken_is}
+use Rattle.job_begins.proofs.JobPlaces.{pool_again, taken_in_use}
 use Rattle.job_begins.proofs.PassedOn.{passed_on}
-use Rattle.job_begins.proofs.snapshot_parts.SnapshotParts.job.Goals as goal
+use Rattle.job_begins.proofs.taking.job_on_pages.Goals as goal
 
-pub lay-requires-clause-heads : goal.lay-requires-clause-heads
-lay-requires-clause-heads c =
-    let taken = c.in_ok-taken.taken in
-    let parts = some_parts 4072 c.args.self.drafts.begun.items in
-    let long = c.in_ok-taken.ensures.taken.long in
-    let needs = c.needs.ensures in
-    let some : 0 < length taken = omega (arith, parts, long, needs) in (
-      drop 1 taken,
-      c.as_slice.ensures
-          ∙ taken_is c.args.pages.now.bits true c.args.self.drafts.begun.head taken
-          c.in_ok-taken.ensures.taken.least (λ _. c.requires.next) (λ _. some),
-    )
+pub lay-requires-clause-taken : goal.lay-requires-clause-taken
+lay-requires-clause-taken g c = (
+  c.args.pages.now.bits,
+  c.take_pages.new.pages.bits,
+  c.requires.heads,
+  subst (λ (l : List ℕ). ArePagesTaken (g.P.JobParts.page_count c.args.parts) c.args.pages.now.bits
+      c.take_pages.new.pages.bits l) (sym c.as_slice.ensures)
+      (subst (λ n. ArePagesTaken n c.args.pages.now.bits c.take_pages.new.pages.bits c.in_ok-taken.taken)
+      c.needs.ensures c.in_ok-taken.ensures.taken),
+)
 
 pub clear_places-requires-clause-distinct : goal.clear_places-requires-clause-distinct
-clear_places-requires-clause-distinct c =
+clear_places-requires-clause-distinct g c =
     are_distinct c.args.pages.now.bits c.in_ok-taken.taken c.in_ok-taken.ensures.taken.least
 
 pub clear_places-requires-clause-in_use : goal.clear_places-requires-clause-in_use
-clear_places-requires-clause-in_use c =
+clear_places-requires-clause-in_use g c =
     taken_in_use c.args.pages.now.bits c.in_ok-taken.taken c.in_ok-taken.ensures.taken.least _
     c.in_ok-taken.ensures.taken.set
 
 pub returns-clause-same : goal.returns-clause-same
-returns-clause-same c =
+returns-clause-same g c =
     pool_again c.args.pages.now c.clear_places.new.pool c.in_ok-taken.taken c.in_ok-taken.ensures.taken.least _
     c.in_ok-taken.ensures.taken.set c.clear_places.ensures.bits
     (c.clear_places.ensures.unclaimed ∙ sym c.requires.unclaimed)
 
 pub returns-in-Ok-clause-job : goal.returns-in-Ok-clause-job
-returns-in-Ok-clause-job c =
+returns-in-Ok-clause-job g c =
     record {
       taken = c.in_ok-taken.taken;
       pages = subst (λ n. ArePagesTaken n c.args.pages.now.bits c.take_pages.new.pages.bits c.in_ok-taken.taken)
           c.needs.ensures c.in_ok-taken.ensures.taken;
-      laid = subst (λ (l : List ℕ). IsSnapshotLaid c.args.self.drafts c.args.self.besides c.args.channel l
-          c.args.self.old c.in-Ok.job) c.as_slice.ensures c.in-Ok.ensures;
+      laid = subst (λ (l : List ℕ). g.P.JobParts.is_laid c.args.parts c.args.channel l c.in-Ok.job) c.as_slice.ensures
+          c.in-Ok.ensures;
     }
 
 pub returns-in_err-taken-clause-lack : goal.returns-in_err-taken-clause-lack
-returns-in_err-taken-clause-lack c =
-    let needs = snapshot_needs c.args.self.drafts in
+returns-in_err-taken-clause-lack g c =
+    let needs = g.P.JobParts.page_count c.args.parts in
     passed_on c.from_residual.result c.from_residual.ensures.1 (IsShort needs c.args.pages.now.bits)
     (subst (λ n. IsShort n c.args.pages.now.bits c.in_err-taken.field-0.0) c.needs.ensures c.in_err-taken.ensures.lack)

@@ -1,9 +1,11 @@
-use Rattle.std.proofs.Common.{[], ◌∷◌, ◌∙◌, ap, subst, List, ℕ}
+use Rattle.std.proofs.Common.{[], ◌∷◌, ◌∙◌, ◌<◌, ap, drop, length, subst, true, arith, List, ℕ}
+use Rattle.md_chain.proofs.Fitting.{some_parts}
 use Rattle.running_store.specs.Jobs.{writes_laid}
 use Rattle.running_store.specs.declared.effects.Effects.{Effects}
 use Rattle.running_store.specs.declared.job.RunningJob.{RunningJob}
 use Rattle.job_begins.specs.Drafts.{IsPlannedOn}
-use Rattle.job_begins.proofs.snapshot_parts.SnapshotParts.lay.Goals as goal
+use Rattle.job_begins.proofs.JobPlaces.{taken_is}
+use Rattle.job_begins.proofs.snapshot_parts.SnapshotPartsJobParts.lay.Goals as goal
 
 pub returns : goal.returns
 returns c =
@@ -48,3 +50,15 @@ returns c =
           ∷ (c.replacement-2.ensures ∙ ap (λ (l : List ℕ). writes_laid commits.planned l) commits_on.old_is) i
           ∷ (c.replacement-3.ensures ∙ ap (λ (l : List ℕ). writes_laid finishes.planned l) finishes_on.old_is) i ∷ []);
     }
+
+pub places-places-requires-clause-heads : goal.places-places-requires-clause-heads
+places-places-requires-clause-heads c =
+    let x = c.args.self.drafts in
+    let on = c.requires.taken in
+    let taken = c.args.taken.now in
+    let parts = some_parts 4072 x.begun.items in
+    let long = on.3.long in
+    let some : 0 < length taken = omega (arith, parts, long) in (
+      drop 1 taken,
+      taken_is on.0 true x.begun.head taken on.3.least (λ _. on.2) (λ _. some),
+    )
