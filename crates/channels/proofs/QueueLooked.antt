@@ -1,11 +1,10 @@
 -- The step of the metadata thread where there was nothing to do before it looked into the queue.
-use Rattle.std.proofs.Common.{◌≡◌, ◌⊎◌, inl, inr, ℕ, true, false, List, [], length, Option, Some, None, refl, sym}
+use Rattle.std.proofs.Common.{◌≡◌, ◌⊎◌, inl, inr, ℕ, true, false, List, [], Option, Some, None, refl, sym}
 use Rattle.std.proofs.Common.{ap}
 use Rattle.std.proofs.Common.{◌∙◌, subst}
-use Rattle.std.specs.Prelude.{◌<◌, IfSome, is_none as is_empty, IsSome}
+use Rattle.std.specs.Prelude.{IfSome, is_none as is_empty, IsSome}
 use Rattle.page_disk.specs.declared.disk.PageDisk.{Ghosts}
 use Rattle.volume_model.specs.declared.reply.Msg.{Msg}
-use Rattle.md_queue.specs.Queue.{GivesOldest, IsEmpty}
 use Rattle.store_model.specs.Filling.{IsFilledFor}
 use Rattle.store_model.specs.StoreState.{StoreState}
 use Rattle.running_store.specs.StoreView.{rows_of, state_of, WithOpening}
@@ -18,10 +17,11 @@ use Rattle.run_moves.specs.FillTurns.{HoldsFill}
 use Rattle.run_moves.specs.Projection.{RunMessages}
 use Rattle.run_moves.proofs.DriverMoves.{turn_is}
 use Rattle.md_thread.specs.Holding.{driven_by, IsKept, LooksForMessage, MakesStep, messages_by, MetadataState}
-use Rattle.md_thread.specs.declared.state.Next.TheVariants as on
 use Rattle.md_thread.specs.declared.state.Turn.{Turn}
 use Rattle.md_thread.specs.declared.state.Turn.TheVariants.{Idle, Moved}
+use Rattle.channels.specs.ChannelState.{ChannelState}
 use Rattle.channels.specs.Driving.{driven, driven_of, IsDriven, unsent_of}
+use Rattle.channels.specs.QueueLooks.{LooksIntoQueue}
 use Rattle.channels.specs.declared.driver.Driver.{Driver}
 use Rattle.channels.proofs.MetadataActing.{fills_then, is_kept, rests_then, takes_front}
 
@@ -52,116 +52,102 @@ pub kept_before : {D : Type 0} (d : Ghosts D) (w : Driver D) → IsDriven d w �
 kept_before d w is fact =
     is_kept d w.plant.at w.metadata (unsent_of w.channels) w.queue fact is.run is.fill.asked is.works
 
--- The thread made no turn, by which it came to t, with the store at p, and then looked into the queue, by which it came
--- to u.
-pub record HasLooked {D : Type 0} (d : Ghosts D) (w : Driver D) (p : WithOpening D) (t u : MetadataState) : Type 0 where
-  pub is : IsDriven d w
-  pub fact : FactLaws
-  pub due : DueLaws
-  pub same : p ≡ w.plant
-  pub looks : LooksForMessage (state_of d w.plant.at) w.metadata t
-  pub none : t.held ≡ None
-  pub asked : (msg : Msg) → t.fill ≡ Some msg → IsFilledFor (rows_of p.at.rows msg.channel)
-  pub state : u ≡ record t { held = u.held; found_none = is_empty u.held; next = on.Plant }
+module _ {D : Type 0} {d : Ghosts D} {w v : Driver D} (x : LooksIntoQueue d w v) (channels : v.channels ≡ w.channels)
+  where
+    abbrev t : MetadataState
+    t = x.between
 
--- so its calls tell
-pub has_looked : {D : Type 0} (d : Ghosts D) (w : Driver D) → IsDriven d w → FactLaws → DueLaws → {p : WithOpening D}
-    {t u : MetadataState} {turn : Turn} → turn ≡ Idle
-    → (turn ≡ Idle → (p ≡ w.plant) × (t.held ≡ None) × (length t.waiting < 16))
-    → (turn ≡ Idle → IsKept d w.plant.at w.metadata → LooksForMessage (state_of d w.plant.at) w.metadata t)
-    → (IsKept d w.plant.at w.metadata → (msg : Msg) → t.fill ≡ Some msg → IsFilledFor (rows_of p.at.rows msg.channel))
-    → u ≡ record t { held = u.held; found_none = is_empty u.held; next = on.Plant } → HasLooked d w p t u
-has_looked d w is fact due idle idles looks asked state = record {
-  is = is;
-  fact = fact;
-  due = due;
-  same = (idles idle).0;
-  looks = looks idle (kept_before d w is fact);
-  none = (idles idle).1;
-  asked = asked (kept_before d w is fact);
-  state = state;
-}
+    abbrev u : MetadataState
+    u = v.metadata
 
-module _ {D : Type 0} {d : Ghosts D} {w : Driver D} {p : WithOpening D} {t u : MetadataState}
-    (x : HasLooked d w p t u) where
-  abbrev s : StoreState
-  s = state_of d w.plant.at
+    abbrev s : StoreState
+    s = state_of d w.plant.at
 
-  abbrev unsent : ℕ → Option ℕ
-  unsent = unsent_of w.channels
+    abbrev unsent : ℕ → Option ℕ
+    unsent = unsent_of w.channels
 
-  waiting_same : u.waiting ≡ t.waiting
-  waiting_same = ap (λ (x : MetadataState). x.waiting) x.state
+    waiting_same : u.waiting ≡ t.waiting
+    waiting_same = ap (λ (x : MetadataState). x.waiting) x.state
 
-  fill_same : u.fill ≡ t.fill
-  fill_same = ap (λ (x : MetadataState). x.fill) x.state
+    fill_same : u.fill ≡ t.fill
+    fill_same = ap (λ (x : MetadataState). x.fill) x.state
 
-  pub asked_then : (msg : Msg) → u.fill ≡ Some msg → IsFilledFor (rows_of p.at.rows msg.channel)
-  asked_then msg fills = x.asked msg (sym fill_same ∙ fills)
+    -- what comes of it, with the channels as they are
+    steps_to : (q : StoreState) (after : MetadataState)
+        → DriverStep d.tells MetadataActs (driven d w) (driven_of q w.channels v.queue after)
+        → DriverStep d.tells MetadataActs (driven d w) (driven_of q v.channels v.queue after)
+    steps_to q after step = subst (λ (l : List ChannelState). DriverStep d.tells MetadataActs (driven d w)
+        (driven_of q l v.queue after)) (sym channels) step
 
-  -- the front message was taken,
-  pub looked : IsSome u.held → u.found_none ≡ false
-  looked some = ap (λ (x : MetadataState). x.found_none) x.state ∙ something u.held some
+    -- The fill that goes on is of an inflate or a decouple,
+    pub asked_then : (msg : Msg) → u.fill ≡ Some msg → IsFilledFor (rows_of v.plant.at.rows msg.channel)
+    asked_then msg fills = x.asked msg (sym fill_same ∙ fills)
 
-  pub front_taken : (rest : List Msg) → IfSome u.held (λ msg. GivesOldest w.queue msg rest) → IsSome u.held
-      → DriverStep d.tells MetadataActs (driven d w) (driven_of (state_of d p.at) w.channels rest u)
-  front_taken rest taken some =
-      let front = front_of u.held taken some in
-      subst (λ (v : WithOpening D). DriverStep d.tells MetadataActs (driven d w)
-      (driven_of (state_of d v.at) w.channels rest u)) (sym x.same)
-      (subst (λ l. DriverStep d.tells MetadataActs (driven_of s w.channels l w.metadata)
-      (driven_of s w.channels rest u)) (sym front.2)
-      (takes_front x.due d.tells s w.metadata t unsent x.looks x.none u front.0 rest front.1 waiting_same fill_same))
+    -- the front message was taken,
+    pub looked : IsSome u.held → u.found_none ≡ false
+    looked some = ap (λ (x : MetadataState). x.found_none) x.state ∙ something u.held some
 
-  -- or there was none: then a turn of the fill is made, or nothing can be done
-  module _ (nothing : u.held ≡ None) where
-    found : u.found_none ≡ true
-    found = ap (λ (x : MetadataState). x.found_none) x.state ∙ ap (λ (o : Option Msg). is_empty o) nothing
+    pub front_taken : DueLaws → IsSome u.held → DriverStep d.tells MetadataActs (driven d w) (driven d v)
+    front_taken due some =
+        let front = front_of u.held x.taken some in
+        subst (λ (o : WithOpening D). DriverStep d.tells MetadataActs (driven d w)
+        (driven_of (state_of d o.at) v.channels v.queue u)) (sym x.same)
+        (steps_to s u (subst (λ l. DriverStep d.tells MetadataActs (driven_of s w.channels l w.metadata)
+        (driven_of s w.channels v.queue u)) (sym front.2)
+        (takes_front due d.tells s w.metadata t unsent x.looks x.none u front.0 v.queue front.1 waiting_same
+        fill_same)))
 
-    same_messages : messages_by t unsent w.queue ≡ messages_by u unsent w.queue
-    same_messages = λ i. record {
-      unsent = unsent;
-      queue = w.queue;
-      held = (x.none ∙ sym nothing) i;
-      waiting = sym waiting_same i;
-      fill = sym fill_same i;
-    }
+    -- or there was none: then a turn of the fill is made, or nothing can be done
+    module _ (nothing : u.held ≡ None) where
+      found : u.found_none ≡ true
+      found = ap (λ (x : MetadataState). x.found_none) x.state ∙ ap (λ (o : Option Msg). is_empty o) nothing
 
-    facts_then : RunFacts (run_of (driven_by s u unsent w.queue))
-    facts_then = subst (λ (m : RunMessages). RunFacts (run_of (record { store = s; messages = m }))) same_messages
-        (subst (λ (v : DrivenStore). RunFacts (run_of v)) (sym (x.looks.joined unsent w.queue))
-        (subst RunFacts (sym (turn_is (driven d w))) (x.fact.turn (run_of (driven d w)) x.is.run)))
+      same_messages : messages_by t unsent w.queue ≡ messages_by u unsent w.queue
+      same_messages = λ i. record {
+        unsent = unsent;
+        queue = w.queue;
+        held = (x.none ∙ sym nothing) i;
+        waiting = sym waiting_same i;
+        fill = sym fill_same i;
+      }
 
-    pub kept_then : HoldsFill s (driven_at_turn (driven d w)).messages → IsKept d p.at u
-    kept_then turned = subst (λ (v : WithOpening D). IsKept d v.at u) (sym x.same)
-        (is_kept d w.plant.at u unsent w.queue x.fact facts_then
-        (subst (λ (v : WithOpening D). (msg : Msg) → u.fill ≡ Some msg → IsFilledFor (rows_of v.at.rows msg.channel))
-        x.same asked_then)
-        (subst (HoldsFill s) same_messages
-        (subst (λ (v : DrivenStore). HoldsFill s v.messages) (sym (x.looks.joined unsent w.queue)) turned)))
+      facts_then : FactLaws → IsDriven d w → RunFacts (run_of (driven_by s u unsent w.queue))
+      facts_then fact is = subst (λ (m : RunMessages). RunFacts (run_of (record { store = s; messages = m })))
+          same_messages (subst (λ (v : DrivenStore). RunFacts (run_of v)) (sym (x.looks.joined unsent w.queue))
+          (subst RunFacts (sym (turn_is (driven d w))) (fact.turn (run_of (driven d w)) is.run)))
 
-    module _ {rest : List Msg} (empty : IsEmpty w.queue) (unchanged : rest ≡ w.queue) where
-      behind : (v : StoreState) (after : MetadataState)
-          → DriverStep d.tells MetadataActs (driven_by s w.metadata unsent []) (driven_by v after unsent [])
-          → DriverStep d.tells MetadataActs (driven d w) (driven_of v w.channels rest after)
-      behind v after step =
-          subst (λ l. DriverStep d.tells MetadataActs (driven_by s w.metadata unsent l) (driven_by v after unsent rest))
-          (sym empty)
-          (subst (λ l. DriverStep d.tells MetadataActs (driven_by s w.metadata unsent []) (driven_by v after unsent l))
-          (sym (unchanged ∙ empty)) step)
+      pub kept_then : FactLaws → IsDriven d w → HoldsFill s (driven_at_turn (driven d w)).messages
+          → IsKept d v.plant.at u
+      kept_then fact is turned = subst (λ (o : WithOpening D). IsKept d o.at u) (sym x.same)
+          (is_kept d w.plant.at u unsent w.queue fact (facts_then fact is)
+          (subst (λ (o : WithOpening D). (msg : Msg) → u.fill ≡ Some msg → IsFilledFor (rows_of o.at.rows msg.channel))
+          x.same asked_then)
+          (subst (HoldsFill s) same_messages
+          (subst (λ (v : DrivenStore). HoldsFill s v.messages) (sym (x.looks.joined unsent w.queue)) turned)))
 
-      pub fills_on : (q : StoreState) (after : MetadataState) → MakesStep d.tells (state_of d p.at) u q after
-          → DriverStep d.tells MetadataActs (driven d w) (driven_of q w.channels rest after)
-      fills_on q after makes = behind q after
-          (fills_then x.due d.tells s w.metadata t unsent x.looks x.none u nothing waiting_same fill_same q after
-          (subst (λ (v : WithOpening D). MakesStep d.tells (state_of d v.at) u q after) x.same makes))
+      behind : (q : StoreState) (after : MetadataState)
+          → DriverStep d.tells MetadataActs (driven_by s w.metadata unsent []) (driven_by q after unsent [])
+          → DriverStep d.tells MetadataActs (driven d w) (driven_of q v.channels v.queue after)
+      behind q after step =
+          let empty = x.empty nothing in
+          steps_to q after (subst (λ l. DriverStep d.tells MetadataActs (driven_by s w.metadata unsent l)
+          (driven_by q after unsent v.queue)) (sym empty)
+          (subst (λ l. DriverStep d.tells MetadataActs (driven_by s w.metadata unsent []) (driven_by q after unsent l))
+          (sym (x.unchanged nothing ∙ empty)) step))
 
-      pub rests_on : (last : WithOpening D) (after : MetadataState) → last ≡ p
-          → LooksForMessage (state_of d p.at) u after
-          → DriverStep d.tells MetadataActs (driven d w) (driven_of (state_of d last.at) w.channels rest after)
-      rests_on last after is again =
-          subst (λ (v : WithOpening D). DriverStep d.tells MetadataActs (driven d w)
-          (driven_of (state_of d v.at) w.channels rest after)) (sym (is ∙ x.same))
+      pub fills_on : DueLaws → (q : StoreState) (after : MetadataState)
+          → MakesStep d.tells (state_of d v.plant.at) u q after
+          → DriverStep d.tells MetadataActs (driven d w) (driven_of q v.channels v.queue after)
+      fills_on due q after makes = behind q after
+          (fills_then due d.tells s w.metadata t unsent x.looks x.none u nothing waiting_same fill_same q after
+          (subst (λ (o : WithOpening D). MakesStep d.tells (state_of d o.at) u q after) x.same makes))
+
+      pub rests_on : DueLaws → (last : WithOpening D) (after : MetadataState) → last ≡ v.plant
+          → LooksForMessage (state_of d v.plant.at) u after
+          → DriverStep d.tells MetadataActs (driven d w) (driven_of (state_of d last.at) v.channels v.queue after)
+      rests_on due last after is again =
+          subst (λ (o : WithOpening D). DriverStep d.tells MetadataActs (driven d w)
+          (driven_of (state_of d o.at) v.channels v.queue after)) (sym (is ∙ x.same))
           (behind s after
-          (rests_then x.due d.tells s w.metadata t unsent x.looks x.none u nothing waiting_same fill_same after found
-          (subst (λ (v : WithOpening D). LooksForMessage (state_of d v.at) u after) x.same again)))
+          (rests_then due d.tells s w.metadata t unsent x.looks x.none u nothing waiting_same fill_same after found
+          (subst (λ (o : WithOpening D). LooksForMessage (state_of d o.at) u after) x.same again)))

@@ -11,6 +11,8 @@ ghost use Rattle.channels.specs.Actors.{actor_in_run, actors_in_run};
 ghost use Rattle.channels.specs.ChannelState.{starting_at};
 ghost use Rattle.channels.specs.Driving.{driven, AreChannelsOf, AreStarting, IsDriven, IsOfSameStore, KeepsFill};
 ghost use Rattle.channels.specs.Driving.{StillKeepsFill, Steps};
+ghost use Rattle.channels.specs.QueueLooks.{LooksIntoQueue};
+ghost use Rattle.md_thread.specs.declared.state.Turn.TheVariants.{Idle, Moved};
 ghost use Rattle.script_lang.specs.Schedules.{repeated};
 
 use crate::channel::Channel;
@@ -100,6 +102,27 @@ impl<D: PageDisk> Driver<D> {
         self.channels[at] = own;
     }
 
+    /// The metadata thread makes the turn of the store that is due; where none is (`Idle`), it looks into the queue.
+    fn turns_or_looks(&mut self, alloc: Global) -> Turn
+        requires driven { IsDriven D.PageDisk self.old }
+        ensures step { result ≡ Moved → DriverStep D.tells MetadataActs (driven D.PageDisk self.old)
+            (driven D.PageDisk self.new) }
+        ensures keeps { result ≡ Moved → KeepsFill self.new }
+        ensures looks { result ≡ Idle → LooksIntoQueue D.PageDisk self.old self.new }
+        ensures channels { self.new.channels ≡ self.old.channels }
+        ensures store { IsOfSameStore self.old self.new }
+    {
+        moves_keep_facts();
+        what_is_due();
+        let turn = self
+            .metadata
+            .md_turn(alloc, &mut self.right, &mut self.plant);
+        if let Turn::Idle = turn {
+            self.metadata.md_take(&mut self.queue);
+        }
+        turn
+    }
+
     /// The metadata thread makes a turn of the store; where none is to be made it takes a message, or, where none is
     /// queued, makes a turn of the fill, if one goes on.
     fn metadata_acts(&mut self, alloc: Global)
@@ -114,13 +137,9 @@ impl<D: PageDisk> Driver<D> {
         steps_are_moves();
         state_turns();
         self.plant.keeps();
-        let turn = self
-            .metadata
-            .md_turn(alloc, &mut self.right, &mut self.plant);
-        if let Turn::Moved = turn {
+        if let Turn::Moved = self.turns_or_looks(alloc) {
             return;
         }
-        self.metadata.md_take(&mut self.queue);
         if self.metadata.holds() {
             return;
         }
