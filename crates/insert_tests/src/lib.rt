@@ -3,8 +3,6 @@
 #![tactic(auto)]
 
 #[cfg(test)]
-mod begins;
-#[cfg(test)]
 mod ends;
 #[cfg(test)]
 mod families;
@@ -12,6 +10,8 @@ mod families;
 mod inserts;
 #[cfg(test)]
 mod lacks;
+#[cfg(test)]
+mod metadata;
 #[cfg(test)]
 mod orders;
 #[cfg(test)]

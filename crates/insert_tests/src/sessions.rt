@@ -2,7 +2,7 @@
 
 ghost use Rattle.std.specs.Prelude.{◌≡◌};
 
-use crate::begins::begin_asked;
+use crate::metadata::make_turns;
 use blob_report::render_entry;
 use page_disk::MemDisk;
 use script_lang::parse;
@@ -154,7 +154,12 @@ impl Session {
             return "not posted";
         };
         if !matches!(self.plant.request(&self.right, msg), Ok(Request::Insert)) {
-            return begin_asked(alloc, &mut self.plant, &mut self.right, msg);
+            make_turns(alloc, &mut self.plant, &mut self.right, msg, 2);
+            return if self.plant.job_runs() {
+                "began"
+            } else {
+                "logged"
+            };
         }
         match self.plant.begin_insert(&mut self.right, msg) {
             InsertTurn::Began => "began",

@@ -1,24 +1,18 @@
 //! A run that begins where a metadata thread left off, which filled slots of a volume.
 
-ghost use Rattle.std.specs.Prelude.{◌≡◌};
-ghost use Rattle.running_store.specs.StoreView.{state_of};
-ghost use Rattle.store_model.specs.Repairing.{IsRepaired};
-
 use crate::families::family;
+use crate::metadata::make_turns;
 use crate::sessions::let_go;
 use blob_report::render_entry;
 use channels::run_stepwise;
-use md_queue::{Inbox, ListQueue, Outbox};
-use md_thread::{MdState, Turn};
 use page_disk::{MemDisk, PageDisk};
 use script_lang::{Schedule, parse, parse_schedule};
 use std::alloc::Global;
 use std::process::Abort;
 use std::test::Fail;
-use store_core::{FILL_ROW, MdRight, Parts, Plant, RowStage};
+use store_core::{FILL_ROW, Parts, Plant, RowStage};
 use store_model::{state_stops, state_turns};
 use unclean_load::{load, stores_are_accepted};
-use volume_model::Msg;
 
 /// An inflate, and behind it what the volume reads and how much is clear.
 const SCRIPT: &[u8] = b"0 inflate v\n0 read v 0 1\n0 read v 4 1\n0 df\n";
@@ -52,32 +46,6 @@ fn filled<D: PageDisk>(plant: &Plant<D>) -> &'static str {
         RowStage::InJob => "job",
         RowStage::Decided => "settle",
         _ => "nothing",
-    }
-}
-
-/// A metadata thread has this message queued, and makes so many turns.
-fn make_turns<D: PageDisk>(
-    alloc: Global,
-    plant: &mut Plant<D>,
-    right: &mut MdRight,
-    msg: Msg,
-    count: u32,
-)
-    requires right { right.old ≡ plant.old.right }
-    requires repaired { IsRepaired (state_of D.PageDisk plant.old.at) }
-    ensures repaired { IsRepaired (state_of D.PageDisk plant.new.at) }
-    ensures opening { plant.new.opening ≡ plant.old.opening }
-    ensures right { (right.new ≡ right.old) × (plant.new.right ≡ plant.old.right) }
-{
-    let mut metadata = MdState::new();
-    let mut queue = ListQueue::new();
-    if queue.send(msg).is_err() {
-        return;
-    }
-    for _ in 0..count {
-        if let Turn::Idle = metadata.md_turn(alloc, right, plant) {
-            metadata.md_take(&mut queue);
-        }
     }
 }
 
