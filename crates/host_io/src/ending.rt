@@ -1,5 +1,12 @@
 //! How the program ends: its exit status, and what it prints to standard error.
 
+ghost use Rattle.std.specs.Prelude.{◌≡◌, ◌≢◌};
+ghost use Rattle.std.specs.IoError.{error_kind};
+ghost use Rattle.std.specs.declared.io.ErrorKind.TheVariants.{OutOfMemory};
+ghost use Rattle.blob_tool.specs.declared.status.Status.TheVariants as status;
+ghost use Rattle.host_io.specs.ExitStatuses.{exit_status};
+ghost use Rattle.host_io.specs.declared.ending.Ending.TheVariants as ending;
+
 use crate::image::OpenFault;
 use blob_tool::{LineKind, Status};
 use clap::Error;
@@ -21,7 +28,10 @@ pub enum Ending {
 
 impl Ending {
     /// The ending where the words could not be taken: there was no memory for them, or they aren't UTF-8.
-    pub fn no_words(error: io::Error) -> Ending {
+    pub fn no_words(error: io::Error) -> Ending
+        ensures memory { error_kind error ≡ OutOfMemory → result ≡ ending.Ran status.Memory }
+        ensures not_text { error_kind error ≢ OutOfMemory → result ≡ ending.NotText }
+    {
         match error.kind() {
             io::ErrorKind::OutOfMemory => Ending::Ran(Status::Memory),
             _ => Ending::NotText,
@@ -30,7 +40,9 @@ impl Ending {
 
     /// The exit status. Words that aren't UTF-8 are no command, and an image that can't be opened counts as a device
     /// that fails.
-    pub fn code(&self) -> u8 {
+    pub fn code(&self) -> u8
+        ensures { result ≡ exit_status self.now }
+    {
         match self {
             Ending::Ran(Status::Good) => 0,
             Ending::Ran(Status::Usage) | Ending::Refused(_) | Ending::NotText => 1,

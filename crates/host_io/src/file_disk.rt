@@ -1,14 +1,18 @@
 //! A disk over a file.
 
-ghost use Rattle.std.specs.Prelude.{◌<◌, ◌^◌, false, []};
+ghost use Rattle.std.specs.Prelude.{◌≡◌, false, [], IfOk};
+ghost use Rattle.host_io.specs.FileDisks.{unused};
 
 use page_disk::{DiskFault, Page, PageDisk, WriteKind};
 use std::fs::File;
 use std::io;
+use std::io::{Seek, SeekFrom};
+use std::marker::Model;
 use std::os::unix::fs::FileExt;
 
-/// A disk whose page p is the 4096 bytes of a file from byte 4096 p on. It tells nothing of what they hold. It has as
-/// many whole pages as the file had when it was opened; a page that the file has no longer is a fault.
+/// A disk whose page p is the 4096 bytes of a file, or of a block device, from byte 4096 p on. It tells nothing of what
+/// they hold. It has as many whole pages as the file had when it was opened; a page that the file has no longer is a
+/// fault.
 #[derive(Drop)]
 pub struct FileDisk {
     file: File,
@@ -17,13 +21,33 @@ pub struct FileDisk {
     read_faults: u64,
     write_faults: u64,
     reads: u64,
-    ghost within: { pages < 2 ^ 52 },
+}
+
+impl Model for FileDisk {
+    ghost use Rattle.std.specs.Prelude.{◌<◌, ◌^◌};
+    ghost use Rattle.host_io.specs.FileDisks.{FileDiskCounts};
+
+    ghost Value = { FileDiskCounts };
+
+    ghost view = { λ f. record {
+      pages = f.pages;
+      clock = f.clock;
+      read_faults = f.read_faults;
+      write_faults = f.write_faults;
+      reads = f.reads;
+    } };
+
+    ghost invariant = { λ f. f.pages < 2 ^ 52 };
 }
 
 impl FileDisk {
-    /// The disk over a file that was opened to be read, and maybe to be written: else each write is a fault.
-    pub fn new(file: File) -> io::Result<FileDisk> {
-        let pages = file.metadata()?.len() / 4096;
+    /// The disk over a file that was opened to be read, and maybe to be written: else each write is a fault. `Err` says
+    /// why the length of the file isn't known.
+    pub fn new(mut file: File) -> io::Result<FileDisk>
+        ensures { IfOk result (λ disk. disk ≡ unused disk.pages) }
+    {
+        // The end, since the metadata of a block device has no length.
+        let pages = file.seek(SeekFrom::End(0))? / 4096;
         Ok(FileDisk {
             file,
             pages,

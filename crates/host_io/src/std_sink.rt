@@ -1,20 +1,32 @@
 //! A sink over a writer of the standard library.
 
-ghost use Rattle.std.specs.Prelude.{◌<◌, ◌≤◌, IfOk, false, length, []};
+ghost use Rattle.std.specs.Prelude.{◌≡◌, ◌<◌, ◌≤◌, IfOk, false, length, []};
 
 use blob_tool::{Sink, SinkFault};
 use std::io::{ErrorKind, Write};
+use std::marker::Model;
 
-/// Hands bytes to a writer. It tells nothing of them. A writer that takes none of a piece is at fault.
+/// Hands bytes to a writer. It tells nothing of them. A writer that takes none of a piece is at fault. Contracts see
+/// how often a write has failed.
 #[derive(Drop)]
 pub struct StdSink<W: Write + Drop> {
     writer: W,
     faults: u64,
 }
 
+impl<W: Write + Drop> Model for StdSink<W> {
+    ghost use Rattle.std.specs.Prelude.{ℕ};
+
+    ghost Value = { ℕ };
+
+    ghost view = { λ s. s.faults };
+}
+
 impl<W: Write + Drop> StdSink<W> {
     /// The sink that hands its bytes to this writer, with no fault yet.
-    pub fn new(writer: W) -> StdSink<W> {
+    pub fn new(writer: W) -> StdSink<W>
+        ensures { result ≡ 0 }
+    {
         StdSink { writer, faults: 0 }
     }
 }
@@ -24,7 +36,7 @@ impl<W: Write + Drop> Sink for StdSink<W> {
 
     ghost written = { λ _. [] };
 
-    ghost faults = { λ s. s.faults };
+    ghost faults = { λ s. s };
 
     fn write(&mut self, from: &[u8]) -> Result<usize, SinkFault> {
         let result = write_some(&mut self.writer, from);

@@ -1,20 +1,31 @@
 //! A source over a reader of the standard library.
 
-ghost use Rattle.std.specs.Prelude.{◌≤◌, IfOk, false, length, []};
+ghost use Rattle.std.specs.Prelude.{◌≡◌, ◌≤◌, IfOk, false, length, []};
 
 use blob_tool::{Source, SourceFault};
 use std::io::{ErrorKind, Read};
+use std::marker::Model;
 
-/// The bytes that a reader gives. It tells nothing of them.
+/// The bytes that a reader gives. It tells nothing of them. Contracts see how often a read has failed.
 #[derive(Drop)]
 pub struct StdSource<R: Read + Drop> {
     reader: R,
     faults: u64,
 }
 
+impl<R: Read + Drop> Model for StdSource<R> {
+    ghost use Rattle.std.specs.Prelude.{ℕ};
+
+    ghost Value = { ℕ };
+
+    ghost view = { λ s. s.faults };
+}
+
 impl<R: Read + Drop> StdSource<R> {
     /// The source of what this reader gives, with no fault yet.
-    pub fn new(reader: R) -> StdSource<R> {
+    pub fn new(reader: R) -> StdSource<R>
+        ensures { result ≡ 0 }
+    {
         StdSource { reader, faults: 0 }
     }
 }
@@ -24,7 +35,7 @@ impl<R: Read + Drop> Source for StdSource<R> {
 
     ghost left = { λ _. [] };
 
-    ghost faults = { λ s. s.faults };
+    ghost faults = { λ s. s };
 
     fn read(&mut self, into: &mut [u8]) -> Result<usize, SourceFault> {
         let result = read_some(&mut self.reader, into);
