@@ -1,2 +1,3 @@
 pub mod ExitStatuses
 pub mod FileDisks
+pub mod OpenFaults

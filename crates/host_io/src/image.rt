@@ -22,12 +22,22 @@ pub enum OpenFault {
 }
 
 impl From<io::Error> for OpenFault {
+    ghost use Rattle.std.specs.Prelude.{◌≡◌};
+    ghost use Rattle.host_io.specs.declared.image.OpenFault.TheVariants as opening;
+
+    ghost from_gives = { λ error fault. fault ≡ opening.Failed error };
+
     fn from(error: io::Error) -> OpenFault {
         OpenFault::Failed(error)
     }
 }
 
 impl From<TryLockError> for OpenFault {
+    ghost use Rattle.std.specs.Prelude.{◌≡◌};
+    ghost use Rattle.host_io.specs.OpenFaults.{of_locking};
+
+    ghost from_gives = { λ error fault. fault ≡ of_locking error };
+
     fn from(error: TryLockError) -> OpenFault {
         match error {
             TryLockError::WouldBlock => OpenFault::InUse,
