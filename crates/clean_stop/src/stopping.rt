@@ -3,7 +3,7 @@
 ghost use Rattle.std.specs.Prelude.{◌≡◌, ◌≢◌, ◌≤◌, ◌<◌, ◌+◌, OnOk, OnErr, IsTrue};
 ghost use Rattle.clean_stop.specs.Masks.{MasksFit};
 ghost use Rattle.clean_stop.specs.Stopping.{with_clean, IsSuperPage, IsUnloaded, IsUnloading};
-ghost use Rattle.page_disk.specs.Disk.{HasCause, Only, with_page};
+ghost use Rattle.page_disk.specs.Disk.{HasCause, IsSameElsewhere, Only, with_page};
 ghost use Rattle.page_disk.specs.Moments.{CallsLeaveOnly, IsReplaced};
 ghost use Rattle.super_block.specs.Faults.{IsFaultless};
 ghost use Rattle.super_block.specs.Page.{super_bytes};
@@ -30,6 +30,7 @@ pub fn mark_dirty<D: PageDisk>(disk: &mut D, sup: &mut Super) -> Result<(), Disk
 
     ensures marked { IsTrue D.tells
         → OnOk result (D.now disk.new ≡ with_page (D.now disk.old) 0 (super_bytes (with_clean 0 sup.old))) }
+    ensures elsewhere { IsTrue D.tells → IsSameElsewhere 0 (D.now disk.old) (D.now disk.new) }
     ensures one_image { IsTrue D.tells → OnOk result (Only (D.now disk.new) (D.images disk.new)) }
     ensures later { D.clock disk.old ≤ D.clock disk.new }
     // a flush, a write and a flush

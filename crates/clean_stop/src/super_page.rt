@@ -2,7 +2,7 @@
 
 ghost use Rattle.std.specs.Prelude.{◌≡◌, ◌≤◌, ◌+◌, OnOk, OnErr, IsTrue};
 ghost use Rattle.clean_stop.specs.Stopping.{with_clean, IsSuperPage};
-ghost use Rattle.page_disk.specs.Disk.{HasCause, Only, with_page};
+ghost use Rattle.page_disk.specs.Disk.{HasCause, IsSameElsewhere, Only, with_page};
 ghost use Rattle.page_disk.specs.Moments.{CallsLeaveOnly, IsReplaced};
 ghost use Rattle.super_block.specs.Faults.{IsFaultless};
 ghost use Rattle.super_block.specs.Page.{super_bytes};
@@ -26,6 +26,7 @@ pub fn replace_super<D: PageDisk>(
         (IsReplaced (D.images disk.old) (D.now disk.old) 0 (super_bytes (with_clean clean sup.old))) }
     ensures replaced { IsTrue D.tells
         → OnOk result (D.now disk.new ≡ with_page (D.now disk.old) 0 (super_bytes (with_clean clean sup.old))) }
+    ensures elsewhere { IsTrue D.tells → IsSameElsewhere 0 (D.now disk.old) (D.now disk.new) }
     ensures durable { IsTrue D.tells → OnOk result (Only (D.now disk.new) (D.images disk.new)) }
     ensures later { D.clock disk.old ≤ D.clock disk.new }
     ensures rises { OnOk result (D.clock disk.old + 3 ≤ D.clock disk.new) }

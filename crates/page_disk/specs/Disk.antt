@@ -31,6 +31,10 @@ pub record IsPage (page : List ℕ) : Type 0 where
   pub long : length page ≡ 4096
   pub bytes : (i : ℕ) → get_or page i 0 < 256
 
+-- every page but the one at this place is as it was
+abbrev pub IsSameElsewhere : ℕ → Image → Image → Type 0
+IsSameElsewhere place old new = (p : ℕ) → p ≢ place → new p ≡ old p
+
 -- what a write puts into its page: the given one, and where it may be torn any page that isn't sound
 abbrev pub Puts : WriteKind → List ℕ → List ℕ → Type 0
 Puts Whole given page = page ≡ given
@@ -57,7 +61,7 @@ pub record Wrote (old_now new_now : Image) (old new : Images) (place : ℕ) (kin
 -- after a write that failed: its page may hold all that one which succeeds would allow
 pub record WroteOrNot (old_now new_now : Image) (old new : Images) (place : ℕ) (kind : WriteKind)
     (given : List ℕ) : Type 0 where
-  pub elsewhere : (p : ℕ) → p ≢ place → new_now p ≡ old_now p
+  pub elsewhere : IsSameElsewhere place old_now new_now
   pub images : (c : Image) → new c → Written old place kind given c
 
 -- the greatest number of a counter

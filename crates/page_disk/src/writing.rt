@@ -1,6 +1,6 @@
 //! One page is written, and may be torn until it is flushed.
 ghost use Rattle.std.specs.Prelude.{◌≡◌, ◌≤◌, ◌<◌, ◌+◌, OnOk, IsTrue};
-ghost use Rattle.page_disk.specs.Disk.{HasCause, Only, Written, with_page};
+ghost use Rattle.page_disk.specs.Disk.{HasCause, IsSameElsewhere, Only, Written, with_page};
 ghost use Rattle.page_disk.specs.Moments.{CallsLeaveOnly};
 ghost use Rattle.page_disk.specs.declared.disk.WriteKind.TheVariants.{Plain};
 
@@ -15,6 +15,7 @@ pub fn write_page<D: PageDisk>(disk: &mut D, place: u64, page: &Page) -> Result<
         (Written (D.images disk.old) place Plain page.now) }
 
     ensures written { IsTrue D.tells → OnOk result (D.now disk.new ≡ with_page (D.now disk.old) place page.now) }
+    ensures elsewhere { IsTrue D.tells → IsSameElsewhere place (D.now disk.old) (D.now disk.new) }
     ensures later { D.clock disk.old ≤ D.clock disk.new }
     ensures rises { OnOk result (D.clock disk.old + 1 ≤ D.clock disk.new) }
     ensures pages { D.pages disk.new ≡ D.pages disk.old }
@@ -36,6 +37,7 @@ pub fn write_and_flush<D: PageDisk>(disk: &mut D, place: u64, page: &Page) -> Re
         (Written (D.images disk.old) place Plain page.now) }
 
     ensures written { IsTrue D.tells → OnOk result (D.now disk.new ≡ with_page (D.now disk.old) place page.now) }
+    ensures elsewhere { IsTrue D.tells → IsSameElsewhere place (D.now disk.old) (D.now disk.new) }
     ensures durable { IsTrue D.tells → OnOk result (Only (D.now disk.new) (D.images disk.new)) }
     ensures later { D.clock disk.old ≤ D.clock disk.new }
     ensures rises { OnOk result (D.clock disk.old + 2 ≤ D.clock disk.new) }

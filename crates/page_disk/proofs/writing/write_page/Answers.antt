@@ -1,5 +1,6 @@
 use Rattle.page_disk.specs.Disk.{Images, Written}
 use Rattle.page_disk.specs.declared.disk.WriteKind.TheVariants.{Plain}
+use Rattle.page_disk.proofs.Images.{written-elsewhere}
 use Rattle.page_disk.proofs.Moments.{started, goes_on, kept_before, written}
 use Rattle.page_disk.proofs.writing.write_page.Goals as goal
 
@@ -16,3 +17,9 @@ returns-clause-any_moment g c tells =
     goes_on d first first c.write.new.self P none (c.write.ensures.since tells)
     (written c.write.result (d.now first) (d.now c.write.new.self) (d.images first)
     (d.images c.write.new.self) place Plain page (c.write.ensures.ok tells) (c.write.ensures.err tells))
+
+pub returns-clause-elsewhere : goal.returns-clause-elsewhere
+returns-clause-elsewhere g c tells =
+    let d = g.D.PageDisk in
+    written-elsewhere c.write.result (d.now c.args.disk.now) (d.now c.write.new.self) (d.images c.args.disk.now)
+    (d.images c.write.new.self) c.args.place Plain c.args.page.now (c.write.ensures.ok tells) (c.write.ensures.err tells)
