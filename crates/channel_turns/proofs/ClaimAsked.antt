@@ -149,12 +149,6 @@ none_open old mid new at none claims keeps =
     ∙ ap (λ (l : List ℕ). claims_without (at ∷ l) at) none
     ∙ rw (eq-eqb at at refl) refl
 
--- and its place is in use
-pub kept_bits : (old mid new : PoolState) (at : ℕ) → mid ≡ claimed old at → new ≡ kept mid at
-    → new.bits ≡ slice_set old.bits at true
-kept_bits old mid new at claims keeps =
-    ap (λ (s : PoolState). s.bits) keeps ∙ ap (λ (s : PoolState). s.bits) claims
-
 -- the row that holds the claim
 pub claimed_row : (old : List Row) (channel : ℕ) (row : Row) (pages k : ℕ) (claim : Option OpenClaim)
     → channel < length old → row ≡ record (rows_of old channel) { stage = Copying pages; claim = claim } → pages ≡ k

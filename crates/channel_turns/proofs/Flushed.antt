@@ -23,7 +23,8 @@ use Rattle.channel_turns.proofs.FirstCommand.{IsLogged}
 
 module _ {D : Type 0} (d : Ghosts D) (p : StoreView D) (channel : ℕ) (low : channel < length p.rows)
     (runs : p.stopped ≡ None) (w : WaitsToFlush p channel) (disk : D)
-    (moments : CallsLeaveOnly d p.disk disk (d.images p.disk)) (q : StoreView D) where
+    (moments : CallsLeaveOnly d p.disk disk (d.images p.disk)) (pages : d.pages disk ≡ d.pages p.disk)
+    (q : StoreView D) where
   left : (rows_of p.rows channel).left ≡ c.Flush ∷ w.rest
   left = ap (λ (x : Row). x.left) w.row
 
@@ -48,12 +49,12 @@ module _ {D : Type 0} (d : Ghosts D) (p : StoreView D) (channel : ℕ) (low : ch
             next = entered_then Idle d (record p { disk = disk }) q channel c.Flush w.rest r.Ok low is;
           },
           subst (λ (x : D). Touched d p.disk x (no_new true)) (sym same)
-              (record { moments = moments; durable = λ _. durable }),
+              (record { moments = moments; durable = λ _. durable; pages = pages }),
         );
       }
 
   pub flush_failed : IsThawed p
-      → FailsToReplace (device_of d p.disk) (device_of d disk)
+      → FailsToReplace None (device_of d p.disk) (device_of d disk)
       → IsLogged Idle d (stopped_here (record p { disk = disk })) channel r.Fault q
       → TurnsAs d IsOfFlush p q
   flush_failed thawed fails logged =
@@ -76,6 +77,6 @@ module _ {D : Type 0} (d : Ghosts D) (p : StoreView D) (channel : ℕ) (low : ch
                 (state_stopped d (record p { disk = disk }) thawed);
           },
           subst (λ (x : D). Touched d p.disk x (no_new false)) (sym same)
-              (record { moments = moments; durable = λ never. absurd (cc never) }),
+              (record { moments = moments; durable = λ never. absurd (cc never); pages = pages }),
         );
       }

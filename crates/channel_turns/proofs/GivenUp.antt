@@ -1,7 +1,6 @@
 -- A channel's first command as one that it logs itself, and a copy that came to nothing.
-use Rattle.std.proofs.Common.{None, ◌≡◌, ℕ, ◌<◌, length, refl, subst}
+use Rattle.std.proofs.Common.{◌≡◌, ℕ, ◌<◌, length, refl, subst}
 use Rattle.page_disk.specs.declared.disk.PageDisk.{Ghosts}
-use Rattle.volume_model.specs.declared.command.Command.TheVariants as c
 use Rattle.volume_model.specs.declared.reply.Reply.{Reply}
 use Rattle.volume_model.specs.declared.reply.Reply.TheVariants as r
 use Rattle.store_model.specs.Claiming.{IsCopying, LogsWork, Works}
@@ -9,39 +8,13 @@ use Rattle.store_model.specs.Filling.{FillStands}
 use Rattle.store_model.specs.Rows.{Idle, Stage}
 use Rattle.store_model.specs.StoreState.{StoreState}
 use Rattle.store_model.specs.Turning.{stopped_now}
-use Rattle.channel_turns.specs.ChannelTurns.{WaitsToFlush, WaitsToRead, WaitsToWrite}
 use Rattle.channel_turns.specs.ClaimTurns.{HoldsClaim}
-use Rattle.running_store.specs.GivingBack.{IsGivenUp, IsOwnStage, WaitsHere}
+use Rattle.running_store.specs.GivingBack.{IsGivenUp}
 use Rattle.running_store.specs.StoreView.{device_of, state_of, StoreView}
 use Rattle.running_store.proofs.Thawed.{state_stopped}
 use Rattle.channel_turns.proofs.Thawed.{IsThawed}
 use Rattle.running_store.specs.Steps.{stopped_here}
 use Rattle.running_store.proofs.WorkLogged.{fill_still, logs_seen, work_disk, work_logged, work_low, works_still}
-
--- a channel's first command, by what it is
-module _ {D : Type 0} (p : StoreView D) (channel : ℕ) where
-  pub flush_here : WaitsToFlush p channel → WaitsHere p channel
-  flush_here w = record { command = c.Flush; rest = w.rest; stage = Idle; claim = None; row = w.row; own = tt }
-
-  pub read_here : WaitsToRead p channel → WaitsHere p channel
-  read_here w = record {
-    command = c.Read w.volume w.page;
-    rest = w.rest;
-    stage = Idle;
-    claim = None;
-    row = w.row;
-    own = tt;
-  }
-
-  pub write_here : (stage : Stage) → IsOwnStage stage → WaitsToWrite p channel stage → WaitsHere p channel
-  write_here stage mine w = record {
-    command = c.Write w.volume w.page w.word;
-    rest = w.rest;
-    stage = stage;
-    claim = None;
-    row = w.row;
-    own = mine;
-  }
 
 -- ---- a copy that came to nothing
 

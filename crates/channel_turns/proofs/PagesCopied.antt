@@ -4,7 +4,7 @@ use Rattle.std.proofs.Common.{refl, sym, ◌∙◌, ap, subst, arith, IsTrue}
 use Rattle.std.specs.Prelude.{if◌then◌else◌}
 use Rattle.std.specs.Option.{option_map_or}
 use Rattle.std.specs.FinMap as map
-use Rattle.page_disk.specs.Disk.{Image, Rose, RoseByOne, Telling, Written}
+use Rattle.page_disk.specs.Disk.{Image, IsSameElsewhere, Rose, RoseByOne, Telling, Written}
 use Rattle.page_disk.specs.Moments.{CallsLeaveOnly}
 use Rattle.page_disk.specs.declared.disk.PageDisk.{Ghosts}
 use Rattle.page_disk.specs.declared.disk.WriteKind.TheVariants.{Plain}
@@ -15,6 +15,7 @@ use Rattle.store_model.specs.Cases as kind
 use Rattle.store_model.specs.Cases.{FailsToReplace, WritesOnePage}
 use Rattle.store_model.specs.Cases.Copy.{stage_left}
 use Rattle.store_model.specs.Cases.CopyFail.{copy}
+use Rattle.store_model.specs.Cases.CopyNotRead.{IsNotRead}
 use Rattle.store_model.specs.Cases.Read.{IsRead}
 use Rattle.store_model.specs.Copying.{page_of_claim}
 use Rattle.store_model.specs.Filling.{FillStands}
@@ -27,7 +28,7 @@ use Rattle.running_store.specs.Steps.{stopped_here, with_row_at}
 use Rattle.running_store.specs.TurnMade.{TurnMade, TurnsAs}
 use Rattle.channel_turns.specs.ClaimTurns.{CopiesNow, HoldsClaim, IsOfCopy, WaitsToCopy}
 use Rattle.running_store.specs.GivingBack.{filling_left, IsGivenUp, row_given_back}
-use Rattle.running_store.specs.StoreView.{device_of, rows_of, state_of, StoreView}
+use Rattle.running_store.specs.StoreView.{device_of, read_now, rows_of, state_of, StoreView}
 use Rattle.channel_turns.proofs.GivenUp.{copying, disk_failed, disk_still, logs_failed, logs_still}
 use Rattle.running_store.proofs.GivenBack.{state_given_back}
 use Rattle.running_store.proofs.WorkLogged.{work_low}
@@ -49,10 +50,10 @@ module _ {D : Type 0} (d : Ghosts D) (p : StoreView D) (row : ℕ) (from : Optio
   low = let lt = work_low d p seventeen fill row w.works in omega (arith, lt, seventeen)
 
   -- the page can't be read
-  pub copy_not_read : (disk : D) → CallsLeaveOnly d p.disk disk (d.images p.disk)
-      → IsRead (device_of d p.disk) (device_of d disk) r.ReadFault → (q : StoreView D)
+  pub copy_not_read : (disk : D) → CallsLeaveOnly d p.disk disk (d.images p.disk) → d.pages disk ≡ d.pages p.disk
+      → IsNotRead (device_of d p.disk) (device_of d disk) → (q : StoreView D)
       → IsGivenUp (record p { disk = disk }) q row Idle r.ReadFault (d.clock q.disk) → TurnsAs d IsOfCopy p q
-  copy_not_read disk moments read q given = record {
+  copy_not_read disk moments pages failed q given = record {
     kind = kind.copy_not_read;
     is = tt;
     made = (
@@ -62,25 +63,21 @@ module _ {D : Type 0} (d : Ghosts D) (p : StoreView D) (row : ℕ) (from : Optio
         runs = x.runs;
         current = x.current;
         device = device_of d disk;
-        failed = record {
-          reads = read.reads;
-          clock = read.clock;
-          read_faults = read.fault refl;
-          write_faults = read.write_faults;
-        };
+        failed = failed;
         logs = logs_still d p row (Copying (suc left)) w fill seventeen disk q r.ReadFault given;
       },
       subst (λ (y : D). Touched d p.disk y (no_new false))
           (sym (disk_still d p row (Copying (suc left)) w fill seventeen disk q r.ReadFault given))
-          (record { moments = moments; durable = λ never. absurd (cc never) }),
+          (record { moments = moments; durable = λ never. absurd (cc never); pages = pages }),
     );
   }
 
   -- the page is read, and then it is written or not
   module _ (law : IsTrue d.tells → Telling d.now d.images d.since d.clock) (mid : D)
-      (reading : CallsLeaveOnly d p.disk mid (d.images p.disk))
+      (reading : CallsLeaveOnly d p.disk mid (d.images p.disk)) (as_many : d.pages mid ≡ d.pages p.disk)
       (read : IsRead (device_of d p.disk) (device_of d mid) r.Ok) (content : List ℕ) (disk : D)
-      (writing : CallsLeaveOnly d mid disk (Written (d.images mid) to Plain content)) where
+      (writing : CallsLeaveOnly d mid disk (Written (d.images mid) to Plain content))
+      (as_many_then : d.pages disk ≡ d.pages mid) where
     -- over both calls
     moments : CallsLeaveOnly d p.disk disk (Written (d.images p.disk) to Plain content)
     moments tells =
@@ -97,7 +94,7 @@ module _ {D : Type 0} (d : Ghosts D) (p : StoreView D) (row : ℕ) (from : Optio
 
     touched : Touched d p.disk disk (puts (page_of_claim now w.claim x.page) content false)
     touched = subst (λ n. Touched d p.disk disk (puts n content false)) (sym x.to_is)
-        (record { moments = moments; durable = λ never. absurd (cc never) })
+        (record { moments = moments; durable = λ never. absurd (cc never); pages = as_many_then ∙ as_many })
 
     calls : (after : ℕ) → after ≡ d.reads mid → (after ≡ d.reads p.disk) ⊎ RoseByOne (d.reads p.disk) after
     calls after is = subst (λ n. (n ≡ d.reads p.disk) ⊎ RoseByOne (d.reads p.disk) n) (sym is) read.read_calls
@@ -138,7 +135,7 @@ module _ {D : Type 0} (d : Ghosts D) (p : StoreView D) (row : ℕ) (from : Optio
       touched,
     )
 
-    pub copy_failed : IsThawed p → FailsToReplace (device_of d mid) (device_of d disk)
+    pub copy_failed : IsThawed p → FailsToReplace (Some to) (device_of d mid) (device_of d disk)
         → (q : StoreView D)
         → IsGivenUp (stopped_here (record p { disk = disk })) q row Idle r.Fault (d.clock q.disk)
         → TurnsAs d IsOfCopy p q
@@ -153,6 +150,8 @@ module _ {D : Type 0} (d : Ghosts D) (p : StoreView D) (row : ℕ) (from : Optio
           runs = x.runs;
           device = device_of d disk;
           fails = record {
+            rest = subst (λ n. IsSameElsewhere n (read_now d p.disk) (read_now d disk)) (sym x.to_is)
+                (λ n other. fails.rest n other ∙ ap (λ (image : Image). image n) read.reads);
             clock = let later = fails.clock in let still = read.clock in omega (arith, later, still);
             read_faults = fails.read_faults ∙ no_read_fault;
             write_faults = subst (λ n. Rose n (d.write_faults disk)) read.write_faults fails.write_faults;

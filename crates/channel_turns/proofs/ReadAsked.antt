@@ -1,6 +1,6 @@
 -- What a channel's read of a page comes to, by what was found of its blob.
 use Rattle.std.proofs.Common.{◌≡◌, ◌≢◌, ◌+◌, ◌≤◌, ◌<◌, ℕ, ◌∷◌, Bool, true, false, List, Option, Some, None}
-use Rattle.std.proofs.Common.{length, Result, Ok, Err, refl, sym, ap, subst, ◌∙◌, arith, IsTrue}
+use Rattle.std.proofs.Common.{length, Result, Ok, Err, refl, sym, ap, subst, ◌∙◌, arith, inr, IsTrue}
 use Rattle.std.specs.Prelude.{IfSome, IsSome, if◌then◌else◌, slice_get}
 use Rattle.std.specs.Option.{option_and_then, option_map_or}
 use Rattle.std.specs.FinMap as map
@@ -25,6 +25,7 @@ use Rattle.blob_meta.specs.Pages.{IsFirstOnPages, IsPageCause, place_read}
 use Rattle.blob_meta.specs.ShownBy.{IsHeadMeant}
 use Rattle.blob_meta.proofs.Refused.{none_meant}
 use Rattle.store_model.specs.Cases as kind
+use Rattle.store_model.specs.Cases.CopyNotRead.{IsNotRead}
 use Rattle.store_model.specs.Cases.Read.{IsRead}
 use Rattle.store_model.specs.Rows.{Idle, Row}
 use Rattle.store_model.specs.Seen.{seen_reply}
@@ -36,7 +37,7 @@ use Rattle.channel_turns.specs.ChannelTurns.{IsFrozenFor, IsOfRead, ReadsNow, Wa
 use Rattle.channel_turns.proofs.WriteMeant.{found_frozen}
 use Rattle.running_store.specs.DeviceCalls.{IsReadSo}
 use Rattle.running_store.specs.TurnMade.{TurnsAs}
-use Rattle.running_store.specs.Reserved.{is_read, IsContent}
+use Rattle.running_store.specs.Reserved.{IsContent}
 use Rattle.running_store.specs.RunningState.{IsRunning}
 use Rattle.running_store.specs.StoreView.{AreResolved, device_of, read_now, rows_of, state_of, StoreView}
 use Rattle.running_store.specs.Steps.{Asks}
@@ -91,18 +92,31 @@ read_so old new (Ok v) is so = so
 read_so old new (Err e) is so = absurd (cc is)
 
 pub failed_so : {T : Type 0} (old new : Device) (x : Result T DiskFault) → is_err x ≡ true → IsReadSo old new x
-    → IsRead old new r.ReadFault
+    → IsNotRead old new
 failed_so old new (Ok v) is so = absurd (cc is)
 failed_so old new (Err e) is so = so
+
+-- the read of a page that failed, as what is seen over one read at most
+as_read : {old new : Device} → IsNotRead old new → IsRead old new r.ReadFault
+as_read failed = record {
+  reads = failed.reads;
+  clock = failed.clock;
+  write_faults = failed.write_faults;
+  read_calls = inr failed.read_calls;
+  later = failed.later;
+  fault = λ _. failed.read_faults;
+  no_fault = λ other. absurd (other refl);
+}
 
 -- what is read of the device answers a read of a blob that isn't frozen
 answered : {D : Type 0} (d : Ghosts D) (p : StoreView D) (channel : ℕ) (w : WaitsToRead p channel) → p.stopped ≡ None
     → IsNotFrozen (state_of d p) w.volume → channel < length p.rows → (disk : D)
-    → CallsLeaveOnly d p.disk disk (d.images p.disk) → (q : StoreView D) → (reply : Reply) → IsQuiet reply
+    → CallsLeaveOnly d p.disk disk (d.images p.disk) → d.pages disk ≡ d.pages p.disk → (q : StoreView D)
+    → (reply : Reply) → IsQuiet reply
     → Allowed (fixed_of p.super) (shown (state_of d p)) (c.Read w.volume w.page) (seen_reply d.tells reply)
     → IsRead (device_of d p.disk) (device_of d disk) reply → IsLogged Idle d (record p { disk = disk }) channel reply q
     → TurnsAs d IsOfRead p q
-answered {D = D} d p channel w runs free low disk moments q reply quiet step read logged =
+answered {D = D} d p channel w runs free low disk moments pages q reply quiet step read logged =
     let reading = c.Read w.volume w.page in
     let is = logged reading w.rest (ap (λ (x : Row). x.left) w.row) in
     let mid : StoreView D = record p { disk = disk } in
@@ -127,7 +141,7 @@ answered {D = D} d p channel w runs free low disk moments q reply quiet step rea
         },
         subst (λ (x : D). Touched d p.disk x (no_new false))
             (sym (disk_same_then Idle d mid q channel reading w.rest reply low is))
-            (record { moments = moments; durable = λ never. absurd (cc never) }),
+            (record { moments = moments; durable = λ never. absurd (cc never); pages = pages }),
       );
     }
 
@@ -169,7 +183,7 @@ module _ {D : Type 0} (d : Ghosts D) (p : StoreView D) (channel : ℕ) (running 
     read_refused reply caused first low q logged none =
         let x = caused_step s w.volume w.page reply caused
         (first (fixed_of p.super) (shown s) (shows_pages s running runs p.metas are.resolves)) in
-        answered d p channel w runs free low p.disk none q reply x.1 x.0
+        answered d p channel w runs free low p.disk none refl q reply x.1 x.0
         (not_read d p.disk reply (caused_no_fault reply caused)) logged
 
     module _ (first : Option Reply) (is_first : IsFirstOnPages p.metas p.super command first)
@@ -230,7 +244,8 @@ module _ {D : Type 0} (d : Ghosts D) (p : StoreView D) (channel : ℕ) (running 
 
 module _ {D : Type 0} (d : Ghosts D) (p : StoreView D) (channel : ℕ) (place : Option ℕ)
     (x : ReadsNow d p channel place) (low : channel < length p.rows) (disk : D)
-    (moments : CallsLeaveOnly d p.disk disk (d.images p.disk)) (q : StoreView D) where
+    (moments : CallsLeaveOnly d p.disk disk (d.images p.disk)) (pages : d.pages disk ≡ d.pages p.disk)
+    (q : StoreView D) where
   abbrev w : WaitsToRead p channel
   w = x.waits
 
@@ -240,19 +255,12 @@ module _ {D : Type 0} (d : Ghosts D) (p : StoreView D) (channel : ℕ) (place : 
   left : (rows_of p.rows channel).left ≡ reading ∷ w.rest
   left = ap (λ (x : Row). x.left) w.row
 
-  pub is_reading : (command : Command) (rest : List Command) → (rows_of p.rows channel).left ≡ command ∷ rest
-      → is_read command ≡ true
-  is_reading command rest is =
-      let both : command ∷ rest ≡ reading ∷ w.rest = sym is ∙ left in
-      let e : command ≡ reading = cc both in
-      ap is_read e
-
   -- it failed
-  pub read_failed : IsRead (device_of d p.disk) (device_of d disk) r.ReadFault
+  pub read_failed : IsNotRead (device_of d p.disk) (device_of d disk)
       → IsLogged Idle d (record p { disk = disk }) channel r.ReadFault q
       → TurnsAs d IsOfRead p q
-  read_failed read logged =
-      answered d p channel w x.runs x.free low disk moments q r.ReadFault tt (x.asked, tt) read logged
+  read_failed failed logged = answered d p channel w x.runs x.free low disk moments pages q r.ReadFault tt
+      (x.asked, tt) (as_read failed) logged
 
   -- the content is answered
   pub read_made : (content : List ℕ) → (IsTrue d.tells → content ≡ option_map_or (d.now p.disk) place zero_page)
@@ -261,7 +269,7 @@ module _ {D : Type 0} (d : Ghosts D) (p : StoreView D) (channel : ℕ) (place : 
       → IsLogged Idle d (record p { disk = disk }) channel reply q
       → TurnsAs d IsOfRead p q
   read_made content is read (r.Content page) holds logged =
-      answered d p channel w x.runs x.free low disk moments q (r.Content page) tt (
+      answered d p channel w x.runs x.free low disk moments pages q (r.Content page) tt (
         x.asked,
         x.content ∙ ap (λ (l : List ℕ). Some l) (content_seen d.tells (d.now p.disk) place page.value
             (λ tells. holds ∙ is tells)),

@@ -26,7 +26,8 @@ use Rattle.running_store.proofs.WorkLogged.{work_low}
 
 module _ {D : Type 0} (d : Ghosts D) (p : StoreView D) (row : ℕ) (seventeen : length p.rows ≡ 17)
     (fill : FillStands (state_of d p)) (runs : p.stopped ≡ None) (w : HoldsClaim d p row Ready) (disk : D)
-    (moments : CallsLeaveOnly d p.disk disk (d.images p.disk)) (q : StoreView D) where
+    (moments : CallsLeaveOnly d p.disk disk (d.images p.disk)) (pages : d.pages disk ≡ d.pages p.disk)
+    (q : StoreView D) where
   low : row < length p.rows
   low = let lt = work_low d p seventeen fill row w.works in omega (arith, lt, seventeen)
 
@@ -51,10 +52,10 @@ module _ {D : Type 0} (d : Ghosts D) (p : StoreView D) (row : ℕ) (seventeen : 
               (rows_set p.rows row given low);
         },
         subst (λ (x : D). Touched d p.disk x (no_new true)) (sym (ap (λ (a : StoreView D). a.disk) is))
-            (record { moments = moments; durable = λ _. durable }),
+            (record { moments = moments; durable = λ _. durable; pages = pages }),
       )
 
-  pub send_failed : IsThawed p → FailsToReplace (device_of d p.disk) (device_of d disk)
+  pub send_failed : IsThawed p → FailsToReplace None (device_of d p.disk) (device_of d disk)
       → IsGivenUp (stopped_here (record p { disk = disk })) q row Idle r.Fault (d.clock q.disk)
       → TurnsAs d IsOfSend p q
   send_failed thawed fails given = record {
@@ -68,6 +69,7 @@ module _ {D : Type 0} (d : Ghosts D) (p : StoreView D) (row : ℕ) (seventeen : 
         runs = runs;
         device = device_of d disk;
         fails = record {
+          rest = fails.rest;
           clock = fails.clock;
           read_faults = fails.read_faults;
           write_faults = fails.write_faults;
@@ -77,6 +79,6 @@ module _ {D : Type 0} (d : Ghosts D) (p : StoreView D) (row : ℕ) (seventeen : 
       },
       subst (λ (x : D). Touched d p.disk x (no_new false))
           (sym (disk_failed d p row Ready w fill seventeen disk q given))
-          (record { moments = moments; durable = λ never. absurd (cc never) }),
+          (record { moments = moments; durable = λ never. absurd (cc never); pages = pages }),
     );
   }

@@ -31,7 +31,8 @@ blank false now is n = refl
 
 module _ {D : Type 0} (d : Ghosts D) (p : StoreView D) (channel place : ℕ) (content : List ℕ)
     (w : WritesNow d p channel place content) (low : channel < length p.rows) (disk : D)
-    (moments : CallsLeaveOnly d p.disk disk (Written (d.images p.disk) place Plain content)) (q : StoreView D) where
+    (moments : CallsLeaveOnly d p.disk disk (Written (d.images p.disk) place Plain content))
+    (pages : d.pages disk ≡ d.pages p.disk) (q : StoreView D) where
   abbrev command : Command
   command = c.Write w.at.volume w.at.page w.at.word
 
@@ -48,7 +49,7 @@ module _ {D : Type 0} (d : Ghosts D) (p : StoreView D) (channel place : ℕ) (co
 
   touched : (x : D) → x ≡ disk → Touched d p.disk x (puts w.at.place (page_of w.at.word) false)
   touched x same = subst (λ (x : D). Touched d p.disk x (puts w.at.place (page_of w.at.word) false)) (sym same)
-      (record { moments = moments_there; durable = λ never. absurd (cc never) })
+      (record { moments = moments_there; durable = λ never. absurd (cc never); pages = pages })
 
   -- the page is written
   pub written_made : WritesOnePage d.tells (device_of d p.disk) place content 1 (device_of d disk)
@@ -80,7 +81,7 @@ module _ {D : Type 0} (d : Ghosts D) (p : StoreView D) (channel place : ℕ) (co
 
   -- the write failed
   pub write_failed : IsThawed p
-      → FailsToReplace (device_of d p.disk) (device_of d disk)
+      → FailsToReplace (Some place) (device_of d p.disk) (device_of d disk)
       → IsLogged Idle d (stopped_here (record p { disk = disk })) channel r.Fault q
       → TurnsAs d IsOfWrite p q
   write_failed thawed fails logged =
@@ -93,7 +94,8 @@ module _ {D : Type 0} (d : Ghosts D) (p : StoreView D) (channel place : ℕ) (co
           record {
             at = w.at;
             device = device_of d disk;
-            fails = fails;
+            fails = subst (λ n. FailsToReplace (Some n) (device_of d p.disk) (device_of d disk)) (sym w.place_is)
+                fails;
             next = entered_then Idle d mid q channel command w.at.rest r.Fault low is
                 ∙ ap (λ (a : StoreState). logged_here a channel command w.at.rest r.Fault (device_of d disk))
                 (state_stopped d (record p { disk = disk }) thawed)

@@ -177,8 +177,8 @@ module _ {D : Type 0} (d : Ghosts D) (law : IsTrue d.tells → Telling d.now d.i
     -- and where it runs on, it ran
     was_running : over.Goes p q → q.stopped ≡ None → p.stopped ≡ None
     was_running (over.stays same device) runs = sym same ∙ runs
-    was_running (over.moves ran same counted) runs = ran
-    was_running (over.breaks ran stopped counted) runs = ran
+    was_running (over.moves ran same counted later) runs = ran
+    was_running (over.breaks ran stopped counted later) runs = ran
 
     as_opened : RunsClean q → Pages s p q touch → (c : Image) → Left c → HasFixedPagesOf s opened c
     as_opened runs pages = by pages
@@ -230,7 +230,7 @@ module _ {D : Type 0} (d : Ghosts D) (law : IsTrue d.tells → Telling d.now d.i
 
     moments : Logs p q → MarksKept d to q.marks Always
     moments (nothing log_is marks_are) = subst (λ m. MarksKept d to m Always) (sym marks_are) kept_so
-    moments (answer e log_is marks_are quiet runs) = one_more marks_are
+    moments (answer e log_is marks_are quiet runs cause) = one_more marks_are
     moments (halt e at log_is marks_are reply stops) = one_more marks_are
     moments (fault e log_is marks_are reply stops) = one_more marks_are
 

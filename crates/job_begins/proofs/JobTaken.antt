@@ -121,9 +121,6 @@ module _ {D : Type 0} {d : Ghosts D} {store : Running D} {channel : ℕ} (can : 
     pub has_one : makes ≡ false → HasChain p.chains head
     has_one no_room = has_chain s can.running can.unmarked can.runs command head new zeros asks (was ∙ ap not no_room)
 
-    pub has_none : makes ≡ true → s.chains head ≡ None
-    has_none room = none_of (s.chains head) (was ∙ ap not room)
-
     pub next_head : makes ≡ true → IsFreshHead p.pages head
     next_head room = asks.next (none_of (s.base head)
         (there_is s can.running can.unmarked can.runs command head new zeros asks ∙ was ∙ ap not room))

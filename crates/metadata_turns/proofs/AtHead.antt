@@ -1,10 +1,11 @@
 -- A job at work on a replacement whose head's page comes next, and the row that is told of it.
-use Rattle.std.proofs.Common.{◌≡◌, ℕ, ◌+◌, true, List, ◌∷◌, length, Option, Some, None, refl, sym, ◌∙◌, ap, subst₂}
+use Rattle.std.proofs.Common.{◌≡◌, ℕ, ◌+◌, true, List, ◌∷◌, length, Option, Some, None, refl, sym, ◌∙◌, ap, subst}
+use Rattle.std.proofs.Common.{subst₂}
 use Rattle.std.specs.Option.{option_map}
 use Rattle.page_disk.specs.Moments.{CallsLeaveOnly, IsReplaced}
 use Rattle.page_disk.specs.declared.disk.PageDisk.{Ghosts}
 use Rattle.volume_model.specs.declared.reply.Reply.{Reply}
-use Rattle.store_model.specs.Cases.{WritesOnePage}
+use Rattle.store_model.specs.Cases.{FailsToReplace, WritesOnePage}
 use Rattle.store_model.specs.Phases.{erasing, has_commit, page_in, Phase, Replaces, Replacing}
 use Rattle.store_model.specs.Rows.{Row}
 use Rattle.store_model.specs.StoreState.{JobState}
@@ -39,19 +40,28 @@ pub record IsAtHead {D : Type 0} (d : Ghosts D) (p : StoreView D) (serves : Serv
   pub fits : IsFor serves x
 
 -- Device calls replace that page, and nothing else is touched.
-abbrev pub TouchesHead : {D : Type 0} → Ghosts D → StoreView D → Replacing → D → Type 0
-TouchesHead d p r disk = CallsLeaveOnly d p.disk disk
-    (IsReplaced (d.images p.disk) (d.now p.disk) (p.super.md_start + r.head) (page_in r.planned r.head))
+pub record TouchesHead {D : Type 0} (d : Ghosts D) (p : StoreView D) (r : Replacing) (disk : D) : Type 0 where
+  pub moments : CallsLeaveOnly d p.disk disk
+      (IsReplaced (d.images p.disk) (d.now p.disk) (p.super.md_start + r.head) (page_in r.planned r.head))
+  pub pages : d.pages disk ≡ d.pages p.disk
 
 module _ {D : Type 0} (d : Ghosts D) (p : StoreView D) (r : Replacing) (disk : D) {at : ℕ} {page : List ℕ}
     (at_is : at ≡ p.super.md_start + r.head) (page_is : page ≡ page_in r.planned r.head) where
   -- device calls that replace this page with what is planned for the head replace the head's,
   pub touches_head : CallsLeaveOnly d p.disk disk (IsReplaced (d.images p.disk) (d.now p.disk) at page)
-      → TouchesHead d p r disk
-  touches_head = subst₂
-      (λ n page. CallsLeaveOnly d p.disk disk (IsReplaced (d.images p.disk) (d.now p.disk) n page)) at_is page_is
+      → d.pages disk ≡ d.pages p.disk → TouchesHead d p r disk
+  touches_head moments pages = record {
+    moments = subst₂ (λ n page. CallsLeaveOnly d p.disk disk (IsReplaced (d.images p.disk) (d.now p.disk) n page))
+        at_is page_is moments;
+    pages = pages;
+  }
 
-  -- and so do those that write it
+  -- those that fail leave all but the head's,
+  pub fails_head : FailsToReplace (Some at) (device_of d p.disk) (device_of d disk)
+      → FailsToReplace (Some (p.super.md_start + r.head)) (device_of d p.disk) (device_of d disk)
+  fails_head = subst (λ n. FailsToReplace (Some n) (device_of d p.disk) (device_of d disk)) at_is
+
+  -- and those that are done write it
   pub moves_head : WritesOnePage d.tells (device_of d p.disk) at page 3 (device_of d disk)
       → WritesOnePage d.tells (device_of d p.disk) (p.super.md_start + r.head) (page_in r.planned r.head) 3
       (device_of d disk)

@@ -1,6 +1,6 @@
 -- What a turn of a job makes of the store before its replacement: the next fresh page of the plan is written.
 use Rattle.std.proofs.Common.{◌≡◌, ℕ, suc, ◌+◌, ◌<◌, ◌≤◌, List, [], ◌∷◌, length, get_or, Option, Some, refl, sym, ◌∙◌}
-use Rattle.std.proofs.Common.{ap, subst₂, arith, add-one, drop}
+use Rattle.std.proofs.Common.{ap, subst, subst₂, arith, add-one, drop}
 use Rattle.std.specs.Prelude.{slice_get}
 use Rattle.page_disk.specs.Disk.{Written}
 use Rattle.page_disk.specs.Moments.{CallsLeaveOnly}
@@ -75,7 +75,8 @@ module _ {D : Type 0} (d : Ghosts D) (p : StoreView D) (serves : Serves) (planne
         ∙ sym (next_page sf w.running w.not_stopped serves planned old written more refl (suc written) x next_is)
 
     module _ (disk : D)
-        (touches : CallsLeaveOnly d p.disk disk (Written (d.images p.disk) at Plain (next seen written).page)) where
+        (touches : CallsLeaveOnly d p.disk disk (Written (d.images p.disk) at Plain (next seen written).page))
+        (pages : d.pages disk ≡ d.pages p.disk) where
       touched : CallsLeaveOnly d p.disk disk
           (Written (d.images p.disk) (p.super.md_start + x.place) Plain (planned_at jf x.place))
       touched = subst₂
@@ -103,14 +104,15 @@ module _ {D : Type 0} (d : Ghosts D) (p : StoreView D) (serves : Serves) (planne
                   device = device_of d disk;
                 }) (take_one fresh written x.place place);
           },
-          record { moments = touched; durable = λ never. absurd (cc never) },
+          record { moments = touched; durable = λ never. absurd (cc never); pages = pages },
         );
       }
 
       -- or that failed
-      pub fresh_failed : length p.rows ≡ 17 → FailsToReplace (device_of d p.disk) (device_of d disk) → (q : StoreView D)
-          → {told : Option ℕ} → told ≡ waits_for_job jf
+      pub fresh_failed : length p.rows ≡ 17 → FailsToReplace (Some at) (device_of d p.disk) (device_of d disk)
+          → (q : StoreView D) → {told : Option ℕ} → told ≡ waits_for_job jf
           → HasFailed jf.freeze told (record p { disk = disk }) q (d.clock q.disk) → TurnsJob d (with_job p jf) q
       fresh_failed seventeen fails q told_is failed =
-          failed_putting d p jf w seventeen disk fails q told_is failed (Writes x.place) others todo_is
-          (record { place = x.place; page = planned_at jf x.place }) refl touched
+          failed_putting d p jf w seventeen disk q told_is failed (Writes x.place) others todo_is
+          (record { place = x.place; page = planned_at jf x.place }) refl touched pages
+          (subst (λ n. FailsToReplace (Some n) (device_of d p.disk) (device_of d disk)) at_is fails)

@@ -111,7 +111,7 @@ module _ {D : Type 0} (d : Ghosts D) (p : StoreView D) (x : Change) (old : List 
           moves = moves;
           next = as_more none ∙ ap (with_parts r (made_by r) s.live) goes_on;
         },
-        record { moments = touched; durable = λ _. durable },
+        record { moments = touched.moments; durable = λ _. durable; pages = touched.pages },
       );
     })
 
@@ -169,7 +169,7 @@ module _ {D : Type 0} (d : Ghosts D) (p : StoreView D) (x : Change) (old : List 
                       ∙ ap (with_parts r commit.renews
                       (live_shown (change (fixed_of s.super) (shown s) c_now commit.reply))) goes_on);
                 },
-                record { moments = touched; durable = λ _. durable },
+                record { moments = touched.moments; durable = λ _. durable; pages = touched.pages },
               );
             })
 

@@ -139,6 +139,6 @@ module _ {D : Type 0} (d : Ghosts D) (p : StoreView D) (row : ℕ) (planned : Pl
               rows = with_row si.rows row (row_at (stage_behind others_i));
             }) (left_is ∙ sym (goes_on_left (whom.Insert row) j n.serves_is n.freezes claims_none others_i));
       },
-      record { moments = touched; durable = λ _. durable },
+      record { moments = touched.moments; durable = λ _. durable; pages = touched.pages },
     );
   })

@@ -4,12 +4,13 @@ use Rattle.std.specs.FinSet as set
 use Rattle.page_disk.specs.declared.disk.PageDisk.{Ghosts}
 use Rattle.volume_model.specs.declared.reply.Reply.TheVariants as r
 use Rattle.store_model.specs.Cases.{FailsToReplace}
-use Rattle.store_model.specs.Cases.InsertFail.{InsertFails, TriedInsert}
+use Rattle.store_model.specs.Cases.InsertFail.{InsertFails, tried_insert, TriedInsert}
 use Rattle.store_model.specs.Claiming.{IsInserting, LogsWork, Works}
 use Rattle.store_model.specs.Filling.{FillStands}
 use Rattle.store_model.specs.Phases.{Phase}
 use Rattle.store_model.specs.Rows.{Answered, Decided}
 use Rattle.store_model.specs.StoreState.{ForInsert, JobState, StoreState}
+use Rattle.store_model.specs.Touches.{page_touched}
 use Rattle.store_model.specs.Turning.{stopped_now}
 use Rattle.metadata_turns.specs.JobTurns.{stopped_at, with_job, IsAtWork}
 use Rattle.metadata_turns.specs.RowsWork.{WaitsToInsert}
@@ -76,8 +77,9 @@ module _ {D : Type 0} (d : Ghosts D) (p : StoreView D) (j : JobState) (w : IsAtW
       insert_disk = work_disk d stopped seventeen fill q row (Decided Answered) r.Fault insert_low works given
 
       abbrev pub fails_insert : (phase : Phase) (others : List Phase) → j.todo ≡ phase ∷ others
-          → TriedInsert s.super j phase
-          → FailsToReplace (device_of d p.disk) (device_of d disk) → InsertFails s (state_of d q)
+          → (tried : TriedInsert s.super j phase)
+          → FailsToReplace (page_touched (tried_insert s tried)) (device_of d p.disk) (device_of d disk)
+          → InsertFails s (state_of d q)
       fails_insert phase others next tried fails = record {
         phase = phase;
         running = record { job = j; is = refl; rest = others; next = next; runs = w.not_stopped };

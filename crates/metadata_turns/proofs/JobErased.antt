@@ -86,7 +86,8 @@ module _ {D : Type 0} (d : Ghosts D) (p : StoreView D) (serves : Serves) (old : 
 
     -- zeros are written there
     module _ (disk : D) {content : List ℕ} (blank : content ≡ zero_page)
-        (touches : CallsLeaveOnly d p.disk disk (Written (d.images p.disk) at Plain content)) where
+        (touches : CallsLeaveOnly d p.disk disk (Written (d.images p.disk) at Plain content))
+        (pages : d.pages disk ≡ d.pages p.disk) where
       cleared : CallsLeaveOnly d p.disk disk (Written (d.images p.disk) (p.super.md_start + place) Plain zero_page)
       cleared = subst₂
           (λ n page. CallsLeaveOnly d p.disk disk (Written (d.images p.disk) n Plain page)) at_is blank touches
@@ -97,7 +98,7 @@ module _ {D : Type 0} (d : Ghosts D) (p : StoreView D) (serves : Serves) (old : 
           (λ n page. WritesOnePage d.tells (device_of d p.disk) n page clock (device_of d disk)) at_is blank moves
 
       -- or that failed, be it the last one or not
-      pub erase_failed : length p.rows ≡ 17 → FailsToReplace (device_of d p.disk) (device_of d disk)
+      pub erase_failed : length p.rows ≡ 17 → FailsToReplace (Some at) (device_of d p.disk) (device_of d disk)
           → (q : StoreView D) → {told : Option ℕ} → told ≡ waits_for_job k
           → HasFailed k.freeze told (record p { disk = disk }) q (d.clock q.disk) → TurnsJob d (with_job p k) q
       erase_failed seventeen fails q told_is failed = elim (cases_lt (erased + 1) (length old)) [
@@ -108,7 +109,8 @@ module _ {D : Type 0} (d : Ghosts D) (p : StoreView D) (serves : Serves) (old : 
           put : (x : Phase) (others : List Phase) → k.todo ≡ x ∷ others
               → put_by k x ≡ Some (record { place = place; page = zero_page }) → TurnsJob d (with_job p k) q
           put x others todo is =
-              failed_putting d p k w seventeen disk fails q told_is failed x others todo _ is cleared
+              failed_putting d p k w seventeen disk q told_is failed x others todo _ is cleared pages
+              (subst (λ n. FailsToReplace (Some n) (device_of d p.disk) (device_of d disk)) at_is fails)
 
       -- one that isn't the last is erased
       pub erased_one : erased + 1 < length old
@@ -132,7 +134,7 @@ module _ {D : Type 0} (d : Ghosts D) (p : StoreView D) (serves : Serves) (old : 
             next = ap (λ n. record t { job = Some (erasing_for serves old n more); device = device_of d disk })
                 (add-one erased);
           },
-          record { moments = cleared; durable = λ never. absurd (cc never) },
+          record { moments = cleared; durable = λ never. absurd (cc never); pages = pages },
         );
       }
 
@@ -178,7 +180,7 @@ module _ {D : Type 0} (d : Ghosts D) (p : StoreView D) (serves : Serves) (old : 
                       device = device_of d disk;
                     }) (left_is ∙ sym (goes_on_left serves k refl refl refl more));
               },
-              record { moments = cleared; durable = λ _. durable },
+              record { moments = cleared; durable = λ _. durable; pages = pages },
             );
           })
 
@@ -227,7 +229,7 @@ module _ {D : Type 0} (d : Ghosts D) (p : StoreView D) (serves : Serves) (old : 
                           device = device_of d disk;
                         }) (left_is ∙ ap (job_left serves) none);
                   },
-                  record { moments = cleared; durable = λ _. durable },
+                  record { moments = cleared; durable = λ _. durable; pages = pages },
                 );
               })
 

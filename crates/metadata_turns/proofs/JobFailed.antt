@@ -20,7 +20,7 @@ use Rattle.store_model.specs.Recovers.{SaysInUse}
 use Rattle.store_model.specs.Rows.{InJob, Row, Answered, Decided, fill_row}
 use Rattle.store_model.specs.StoreState.{ForCommand, ForInsert, ForRepair, JobState, logged, Service, StoreState}
 use Rattle.store_model.specs.StoreState.{waiting}
-use Rattle.store_model.specs.Touches.{DoesTouch}
+use Rattle.store_model.specs.Touches.{DoesTouch, page_touched, Touch}
 use Rattle.store_model.proofs.Shaped.{waits_for_commit, waits_no_more}
 use Rattle.running_store.specs.Jobs.{waits_for_job}
 use Rattle.running_store.specs.Steps.{logged_at}
@@ -88,8 +88,10 @@ module _ {D : Type 0} (d : Ghosts D) (p : StoreView D) (j : JobState) (w : IsAtW
           ∙ ap (λ (a : StoreState). logged a channel command rest r.Fault (device_of d disk))
           (stopped_state d p j w disk)
 
-      abbrev pub fails_case : (phase : Phase) (others : List Phase) → j.todo ≡ phase ∷ others → Tried s.super j phase
-          → FailsToReplace (device_of d p.disk) (device_of d disk) → kind.Fails s (state_of d fault)
+      abbrev pub fails_case : (phase : Phase) (others : List Phase) → j.todo ≡ phase ∷ others
+          → (tried : Tried s.super j phase)
+          → FailsToReplace (page_touched (fail.tried_at s tried)) (device_of d p.disk) (device_of d disk)
+          → kind.Fails s (state_of d fault)
       fails_case phase others todo tried fails = record {
         phase = phase;
         running = record { job = j; is = refl; rest = others; next = todo; runs = w.not_stopped };
@@ -102,7 +104,8 @@ module _ {D : Type 0} (d : Ghosts D) (p : StoreView D) (j : JobState) (w : IsAtW
       }
 
       abbrev pub fails_more : (replacing : Replacing) (others : List Phase) → j.todo ≡ Replaces replacing None ∷ others
-          → FailsToReplace (device_of d p.disk) (device_of d disk) → kind.MoreFails s (state_of d fault)
+          → FailsToReplace (Some (p.super.md_start + replacing.head)) (device_of d p.disk) (device_of d disk)
+          → kind.MoreFails s (state_of d fault)
       fails_more replacing others todo fails = record {
         replacing = replacing;
         running = record { job = j; is = refl; rest = others; next = todo; runs = w.not_stopped };
@@ -137,8 +140,7 @@ module _ {D : Type 0} (d : Ghosts D) (p : StoreView D) (j : JobState) (w : IsAtW
       by ForRepair serves b commit =
           subst (HasWaitingRow p.filling p.rows) (sym (ap (λ (x : Service). waiting x j.todo) serves)) tt
 
-  module _ (seventeen : length p.rows ≡ 17) (disk : D)
-      (fails : FailsToReplace (device_of d p.disk) (device_of d disk)) (q : StoreView D) {told : Option ℕ}
+  module _ (seventeen : length p.rows ≡ 17) (disk : D) (q : StoreView D) {told : Option ℕ}
       (told_is : told ≡ waits_for_job j)
       (failed : HasFailed j.freeze told (record p { disk = disk }) q (d.clock q.disk)) where
     pub by_waiting : (o : Option ℕ) → waits_for_job j ≡ o
@@ -162,8 +164,13 @@ module _ {D : Type 0} (d : Ghosts D) (p : StoreView D) (j : JobState) (w : IsAtW
     by_insert (alone.mark page is says) = insert.mark page is says
     by_insert (alone.page put is) = insert.page put is
 
+    -- a write or a flush failed, of calls that touch the device so
+    abbrev FailsAt : Touch → Type 0
+    FailsAt touch = FailsToReplace (page_touched touch) (device_of d p.disk) (device_of d disk)
+
     module _ (phase : Phase) (others : List Phase) (todo : j.todo ≡ phase ∷ others)
-        (tried : alone.TriedAlone s.super j phase) (touched : DoesTouch d p.disk disk (alone.tried_alone s tried)) where
+        (tried : alone.TriedAlone s.super j phase) (touched : DoesTouch d p.disk disk (alone.tried_alone s tried))
+        (fails : FailsAt (alone.tried_alone s tried)) where
       none_waits : waits_for_job j ≡ None → TurnsJob d (with_job p j) q
       none_waits none = subst (TurnsJob d (with_job p j)) (sym (by_waiting None none)) (record {
         kind = kind.breaks_off;
@@ -183,21 +190,19 @@ module _ {D : Type 0} (d : Ghosts D) (p : StoreView D) (j : JobState) (w : IsAtW
       })
 
       -- the touch is the same whomever the job is for
-      for_command : DoesTouch d p.disk disk (fail.tried_at s (by_command tried))
-      for_command = by tried touched
+      for_command : alone.tried_alone s tried ≡ fail.tried_at s (by_command tried)
+      for_command = by tried
         where
-          by : (t : alone.TriedAlone s.super j phase) → DoesTouch d p.disk disk (alone.tried_alone s t)
-              → DoesTouch d p.disk disk (fail.tried_at s (by_command t))
-          by (alone.mark page is says) x = x
-          by (alone.page put is) x = x
+          by : (t : alone.TriedAlone s.super j phase) → alone.tried_alone s t ≡ fail.tried_at s (by_command t)
+          by (alone.mark page is says) = refl
+          by (alone.page put is) = refl
 
-      for_insert : DoesTouch d p.disk disk (insert.tried_insert s (by_insert tried))
-      for_insert = by tried touched
+      for_insert : alone.tried_alone s tried ≡ insert.tried_insert s (by_insert tried)
+      for_insert = by tried
         where
-          by : (t : alone.TriedAlone s.super j phase) → DoesTouch d p.disk disk (alone.tried_alone s t)
-              → DoesTouch d p.disk disk (insert.tried_insert s (by_insert t))
-          by (alone.mark page is says) x = x
-          by (alone.page put is) x = x
+          by : (t : alone.TriedAlone s.super j phase) → alone.tried_alone s t ≡ insert.tried_insert s (by_insert t)
+          by (alone.mark page is says) = refl
+          by (alone.page put is) = refl
 
       failed_trying : TurnsJob d (with_job p j) q
       failed_trying = by j.serves refl (has_commit j.todo) refl
@@ -209,8 +214,9 @@ module _ {D : Type 0} (d : Ghosts D) (p : StoreView D) (j : JobState) (w : IsAtW
                 kind = kind.fails;
                 of_job = tt;
                 made = (
-                  fails_case channel serves commit disk phase others todo (by_command tried) fails,
-                  for_command,
+                  fails_case channel serves commit disk phase others todo (by_command tried)
+                      (subst FailsAt for_command fails),
+                  subst (DoesTouch d p.disk disk) for_command touched,
                 );
               })
           by (ForCommand channel) serves false commit = none_waits (waits_no_more j channel serves commit)
@@ -220,9 +226,11 @@ module _ {D : Type 0} (d : Ghosts D) (p : StoreView D) (j : JobState) (w : IsAtW
                 kind = kind.insert_fails;
                 of_job = tt;
                 made = (
-                  fails_insert d p j w channel serves seventeen disk q given phase others todo (by_insert tried) fails,
+                  fails_insert d p j w channel serves seventeen disk q given phase others todo (by_insert tried)
+                      (subst FailsAt for_insert fails),
                   subst (λ (x : D). DoesTouch d p.disk x (insert.tried_insert s (by_insert tried)))
-                      (sym (insert_disk d p j w channel serves seventeen disk q given)) for_insert,
+                      (sym (insert_disk d p j w channel serves seventeen disk q given))
+                      (subst (DoesTouch d p.disk disk) for_insert touched),
                 );
               }
           by ForRepair serves b commit = none_waits (ap (λ (x : Service). waiting x j.todo) serves)
@@ -231,15 +239,18 @@ module _ {D : Type 0} (d : Ghosts D) (p : StoreView D) (j : JobState) (w : IsAtW
     pub failed_putting : (phase : Phase) (others : List Phase) → j.todo ≡ phase ∷ others → (put : PlannedPage)
         → put_by j phase ≡ Some put
         → CallsLeaveOnly d p.disk disk (Written (d.images p.disk) (p.super.md_start + put.place) Plain put.page)
+        → d.pages disk ≡ d.pages p.disk
+        → FailsToReplace (Some (p.super.md_start + put.place)) (device_of d p.disk) (device_of d disk)
         → TurnsJob d (with_job p j) q
-    failed_putting phase others todo put is_put touches =
+    failed_putting phase others todo put is_put touches pages fails =
         failed_trying phase others todo (alone.page put is_put)
-        (record { moments = touches; durable = λ never. absurd (cc never) })
+        (record { moments = touches; durable = λ never. absurd (cc never); pages = pages }) fails
 
     -- or the super block, which was being replaced
     pub failed_marking : (others : List Phase) → j.todo ≡ Marks ∷ others → (page : List ℕ) → SaysInUse p.super page
         → CallsLeaveOnly d p.disk disk (IsReplaced (d.images p.disk) (d.now p.disk) 0 page)
+        → d.pages disk ≡ d.pages p.disk → FailsToReplace (Some 0) (device_of d p.disk) (device_of d disk)
         → TurnsJob d (with_job p j) q
-    failed_marking others todo page says touches =
+    failed_marking others todo page says touches pages fails =
         failed_trying Marks others todo (alone.mark page refl says)
-        (record { moments = touches; durable = λ never. absurd (cc never) })
+        (record { moments = touches; durable = λ never. absurd (cc never); pages = pages }) fails

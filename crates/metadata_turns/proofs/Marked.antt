@@ -38,11 +38,11 @@ module _ {D : Type 0} (d : Ghosts D) (p : StoreView D) (job : RunningJob) (w : I
   -- the mark is made, and the job goes on with what is left
   pub marked_store : SaysInUse p.super page
       → CallsLeaveOnly d p.disk disk (IsReplaced (d.images p.disk) (d.now p.disk) 0 page)
-      → (IsTrue d.tells → Only (d.now disk) (d.images disk))
+      → d.pages disk ≡ d.pages p.disk → (IsTrue d.tells → Only (d.now disk) (d.images disk))
       → WritesOnePage d.tells (device_of d p.disk) 0 page 3 (device_of d disk)
       → TurnsJob d (with_job p (job_seen job))
       (record p { clean = false; disk = disk; job = Some (behind_mark job) })
-  marked_store says touches durable moves = record {
+  marked_store says touches pages durable moves = record {
     kind = kind.marks_dirty;
     of_job = tt;
     made = (
@@ -60,6 +60,6 @@ module _ {D : Type 0} (d : Ghosts D) (p : StoreView D) (job : RunningJob) (w : I
         moves = moves;
         next = refl;
       },
-      record { moments = touches; durable = λ _ told. durable told },
+      record { moments = touches; durable = λ _ told. durable told; pages = pages },
     );
   }

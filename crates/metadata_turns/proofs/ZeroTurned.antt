@@ -111,12 +111,13 @@ module _ {D : Type 0} (d : Ghosts D) (p : StoreView D) (serves : Serves) (planne
   blank silent n = ap (λ (told : Bool). (if told then d.now p.disk else (λ _. zero_page)) n) silent
 
   module _ (disk : D) (at : ℕ) (at_is : at ≡ page) {content : List ℕ} (content_is : content ≡ zero_page)
-      (touches : CallsLeaveOnly d p.disk disk (Written (d.images p.disk) at Plain content)) where
+      (touches : CallsLeaveOnly d p.disk disk (Written (d.images p.disk) at Plain content))
+      (pages : d.pages disk ≡ d.pages p.disk) where
     touched : CallsLeaveOnly d p.disk disk (Written (d.images p.disk) page Plain zero_page)
     touched = subst₂
         (λ n l. CallsLeaveOnly d p.disk disk (Written (d.images p.disk) n Plain l)) at_is content_is touches
 
-    pub failed_zeroing : FailsToReplace (device_of d p.disk) (device_of d disk) → (q : StoreView D)
+    pub failed_zeroing : FailsToReplace (Some at) (device_of d p.disk) (device_of d disk) → (q : StoreView D)
         → {told : Option ℕ} → told ≡ waits_for_job j
         → HasFailed j.freeze told (record p { disk = disk }) q (d.clock q.disk) → TurnsJob d (with_job p j) q
     failed_zeroing fails q told_is failed = by serves refl
@@ -130,8 +131,9 @@ module _ {D : Type 0} (d : Ghosts D) (p : StoreView D) (serves : Serves) (planne
               kind = kind.fails;
               of_job = tt;
               made = (
-                fails_case d p j w channel for_command waits disk (Zeros page) others todo_is (zeros page refl) fails,
-                record { moments = touched; durable = λ never. absurd (cc never) },
+                fails_case d p j w channel for_command waits disk (Zeros page) others todo_is (zeros page refl)
+                    (subst (λ n. FailsToReplace (Some n) (device_of d p.disk) (device_of d disk)) at_is fails),
+                record { moments = touched; durable = λ never. absurd (cc never); pages = pages },
               );
             })
         by (whom.Insert channel) e = absurd (subst (λ (x : Serves). IsZeroedFor x planned z) e zeroed)
@@ -152,6 +154,6 @@ module _ {D : Type 0} (d : Ghosts D) (p : StoreView D) (serves : Serves) (planne
               moves;
           next = ap (λ (x : JobState). record s { job = Some x; device = device_of d disk }) is;
         },
-        record { moments = touched; durable = λ never. absurd (cc never) },
+        record { moments = touched; durable = λ never. absurd (cc never); pages = pages },
       );
     }

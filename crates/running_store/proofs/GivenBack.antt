@@ -1,11 +1,7 @@
 -- The state once a claim is given back, and once a command is logged besides.
-use Rattle.std.proofs.Common.{None, ◌≡◌, ℕ, ◌<◌, ◌≤◌, Bool, false, List, length, Option, sym, ◌∙◌, ap}
+use Rattle.std.proofs.Common.{None, ◌≡◌, ℕ, ◌<◌, List, length, Option, sym, ◌∙◌, ap}
 use Rattle.std.proofs.Common.{subst}
-use Rattle.std.specs.Prelude.{slice_index_or, slice_set}
-use Rattle.std.specs.Option.{option_map}
-use Rattle.std.proofs.lemmas.List.{length-set, set-get_or}
-use Rattle.std.proofs.Math.ListN.{get_or-eq_default}
-use Rattle.bit_array.specs.Bits.{is_in}
+use Rattle.std.proofs.lemmas.List.{length-set}
 use Rattle.page_disk.specs.declared.disk.PageDisk.{Ghosts}
 use Rattle.volume_model.specs.declared.command.Command.{Command}
 use Rattle.volume_model.specs.declared.reply.Reply.{Reply}
@@ -16,33 +12,9 @@ use Rattle.store_model.specs.StoreState.{logged, logged_to, StoreState}
 use Rattle.running_store.specs.Steps.{logged_at, logged_then}
 use Rattle.running_store.specs.GivingBack.{fill_given_back, row_given_back}
 use Rattle.running_store.specs.declared.stages.OpenClaim as held
-use Rattle.running_store.specs.Stages.{claim_seen}
 use Rattle.running_store.specs.StoreView.{device_of, rows_of, state_of, StoreView}
 use Rattle.running_store.proofs.Entered.{entered, entered_then}
-use Rattle.running_store.proofs.Rowing.{row_read, rows_set, with_row_twice}
-
--- a place that is clear is clear as it is
-pub clear_still : (bits : List Bool) (at : ℕ) → is_in bits at ≡ false → bits ≡ slice_set bits at false
-clear_still bits at clear = sym (ap (slice_set bits at) (sym clear) ∙ set-get_or bits at false)
-
--- a place past the end isn't in the set
-pub past_end : (bits : List Bool) (at : ℕ) → length bits ≤ at → is_in bits at ≡ false
-past_end bits at past = get_or-eq_default bits false past
-
--- the row without its claim, and the clusters without the claim's
-pub given_back_is : {D : Type 0} (p : StoreView D) (channel : ℕ) (next : Stage) (row : Row)
-    → row ≡ record (rows_of p.rows channel) { stage = next; claim = None } → (bits : List Bool)
-    → bits ≡ without_claim p.clusters (rows_of p.rows channel).claim
-    → record p { rows = slice_set p.rows channel row; clusters = bits } ≡ row_given_back p channel next
-given_back_is p channel next row row_is bits bits_is =
-    λ i. record p { rows = slice_set p.rows channel (row_is i); clusters = bits_is i }
-
--- the claim that a row holds, by what is taken out of it
-pub claim_read : (rows : List Row) (channel : ℕ) (row : Row) (taken : Option held.OpenClaim) → channel < length rows
-    → row ≡ slice_index_or rows channel row → option_map claim_seen taken ≡ row.claim
-    → (rows_of rows channel).claim ≡ option_map claim_seen taken
-claim_read rows channel row taken low is claim =
-    ap (λ (r : Row). r.claim) (sym (row_read rows channel row low is)) ∙ sym claim
+use Rattle.running_store.proofs.Rowing.{rows_set, with_row_twice}
 
 module _ {D : Type 0} (d : Ghosts D) (p : StoreView D) (row : ℕ) (low : row < length p.rows) (next : Stage) where
   abbrev was : Row

@@ -22,11 +22,6 @@ use Rattle.running_store.proofs.Maps.{insert_given, remove_given}
 abbrev MetaMap : Type 0
 MetaMap = map.FinMap nat_cmp Meta
 
--- where no blob is kept aside, the device says what the store has
-pub none_aside : (metas marked : MetaMap) → marked ≡ map.empty → base_of metas marked ≡ map.get metas
-none_aside metas marked none = ap (λ (m : MetaMap). base_of metas m) none
-    ∙ fun_ext (λ h. ap (λ (o : Option Meta). option_or o (map.get metas h)) (map.get-empty nat_cmp h))
-
 -- what metadata resolves to has no mark
 pub resolved_none : (metas : Metas) (head : ℕ) (m : Meta) → resolved metas head ≡ Some m → mark_of m ≡ None
 resolved_none metas head m is =

@@ -63,14 +63,6 @@ with_row_twice rows channel first second = fun_ext (λ other. by (other == chann
     by true was = refl
     by false was = refl
 
--- the others stay over two changes of one row
-pub only_row_twice : (old mid new : List Row) (channel : ℕ) (first second : Row) → OnlyRow old mid channel first
-    → OnlyRow mid new channel second → OnlyRow old new channel second
-only_row_twice old mid new channel first second a b = record {
-  row = b.row;
-  others = λ other ne. b.others other ne ∙ a.others other ne;
-}
-
 -- with an entry logged, the state is the one in which it is
 pub state_logged_then : (next : Stage) {D : Type 0} (d : Ghosts D) (p : StoreView D) (channel : ℕ) (command : Command)
     (rest : List Command) (reply : Reply) → channel < length p.rows

@@ -3,7 +3,7 @@ use Rattle.std.proofs.Common.{◌≡◌, ℕ, zero, suc, ◌+◌, ◌-◌, ◌*�
 use Rattle.std.proofs.Common.{map, refl, sym, ◌∙◌, ap, arith, add-one}
 use Rattle.std.specs.List.{range_with_len}
 use Rattle.store_model.specs.Phases.{Phase, Zeros}
-use Rattle.running_store.specs.Jobs.{begun_job, behind_zero, writing_for, zeroing_for, IsMatched, IsMatchedFor}
+use Rattle.running_store.specs.Jobs.{behind_zero, writing_for, zeroing_for, IsMatched, IsMatchedFor}
 use Rattle.running_store.specs.Jobs.{IsZeroedFor}
 use Rattle.std.specs.Prelude.{IsSome}
 use Rattle.running_store.specs.Zeroing.{next_zeroed, zeroed_from, pages_of, IsLeft}
@@ -147,12 +147,3 @@ module _ (serves : Serves) (planned : Planned) (old : List ℕ) (z : Zeroed) (ot
       behind []
       (sym (ap (λ l. zeroed_from k l 0) (drop_past claimed (suc z.clusters) (omega (arith, all))))
       ∙ next_cluster k claimed z.clusters z.pages left.clusters left.pages last)
-
--- where no cluster is claimed a job writes its metadata at once
-pub none_zeroed : (serves : Serves) (planned : Planned) (old : List ℕ) (cluster_pages : ℕ) (others : List Phase)
-    → length planned.effects.claimed ≤ 0
-    → writing_for serves planned old 0 others ≡ begun_job serves planned old cluster_pages others
-none_zeroed serves planned old cluster_pages others none = sym (ap (λ l. record (writing_for serves planned old 0
-    others) {
-      todo = map Zeros (zeroed_from cluster_pages l 0) ++ (writing_for serves planned old 0 others).todo;
-    }) (drop_past planned.effects.claimed 0 none))

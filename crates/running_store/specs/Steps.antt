@@ -1,8 +1,10 @@
 -- What turns make of the rows, the log and the marks.
-use Rattle.std.specs.Prelude.{None, Option, Some, ◌≡◌, ◌≢◌, ℕ, ◌<◌, List, [], ◌∷◌, ◌++◌, length, drop, slice_set}
+use Rattle.std.specs.Prelude.{None, Option, Some, ◌≡◌, ◌≢◌, ℕ, List, [], ◌∷◌, ◌++◌, length, drop, slice_set}
 use Rattle.std.specs.Option.{option_and_then}
 use Rattle.volume_model.specs.declared.command.Command.{Command}
+use Rattle.volume_model.specs.declared.reply.Entry.{Entry}
 use Rattle.volume_model.specs.declared.reply.Reply.{Reply}
+use Rattle.volume_model.specs.declared.reply.Reply.TheVariants as r
 use Rattle.store_model.specs.Rows.{Answered, Decided, entry_of, Idle, IsForMetadata, Posted, Row, Stage}
 use Rattle.store_model.specs.StoreState.{JobState}
 use Rattle.running_store.specs.Places.{thawed}
@@ -11,11 +13,6 @@ use Rattle.running_store.specs.StoreView.{StoreView, rows_of}
 -- one row is another
 abbrev pub with_row_at : {D : Type 0} → StoreView D → ℕ → Row → StoreView D
 with_row_at p channel row = record p { rows = slice_set p.rows channel row }
-
--- a channel, and its row
-pub record HasRow {D : Type 0} (p : StoreView D) (channel : ℕ) (row : Row) : Type 0 where
-  pub low : channel < length p.rows
-  pub is : rows_of p.rows channel ≡ row
 
 -- One channel's row is this one now, and each other row is as it was.
 pub record OnlyRow (old new : List Row) (channel : ℕ) (given : Row) : Type 0 where
@@ -45,6 +42,15 @@ logged_then next p channel command rest reply mark = record p {
 -- in a turn of the metadata thread
 abbrev pub logged_at : {D : Type 0} → StoreView D → ℕ → Command → List Command → Reply → ℕ → StoreView D
 logged_at = logged_then (Decided Answered)
+
+-- the log with one entry more: a channel's next, of this command and with this reply
+abbrev pub log_with : List Entry → ℕ → Command → Reply → List Entry
+log_with log channel command reply = log ++ entry_of log channel command reply ∷ []
+
+-- the reply with which a command is refused: this one, or, once the store has stopped, that it has
+abbrev pub refused_with : Option ℕ → Reply → Reply
+refused_with None reply = reply
+refused_with (Some at) reply = r.Stopped at
 
 -- in a turn of the channel's own
 abbrev pub logged_on : {D : Type 0} → StoreView D → ℕ → Command → List Command → Reply → ℕ → StoreView D

@@ -1,6 +1,6 @@
 //! The device calls of a turn, with what they make of the state and what a crash may leave of them.
 
-ghost use Rattle.std.specs.Prelude.{◌≡◌, ◌<◌, ◌≤◌, OnOk, OnErr, IfSome, IsTrue};
+ghost use Rattle.std.specs.Prelude.{◌≡◌, ◌<◌, ◌≤◌, OnOk, OnErr, IfSome, IsTrue, None, Some};
 ghost use Rattle.page_disk.specs.Disk.{Only, Written};
 ghost use Rattle.page_disk.specs.Moments.{IsReplaced, CallsLeaveOnly};
 ghost use Rattle.page_disk.specs.declared.disk.WriteKind.TheVariants.{Plain};
@@ -23,7 +23,8 @@ pub fn write_one<D: PageDisk>(disk: &mut D, place: u64, page: &Page) -> Result<(
     requires { place < D.pages disk.old }
     ensures moves { OnOk result
         (WritesOnePage D.tells (device_of D.PageDisk disk.old) place page.now 1 (device_of D.PageDisk disk.new)) }
-    ensures fails { OnErr result (FailsToReplace (device_of D.PageDisk disk.old) (device_of D.PageDisk disk.new)) }
+    ensures fails { OnErr result
+        (FailsToReplace (Some place) (device_of D.PageDisk disk.old) (device_of D.PageDisk disk.new)) }
     ensures any_moment { CallsLeaveOnly D.PageDisk disk.old disk.new
         (Written (D.images disk.old) place Plain page.now) }
     ensures pages { D.pages disk.new ≡ D.pages disk.old }
@@ -37,7 +38,8 @@ pub fn write_last<D: PageDisk>(disk: &mut D, place: u64, page: &Page) -> Result<
     requires { place < D.pages disk.old }
     ensures moves { OnOk result
         (WritesOnePage D.tells (device_of D.PageDisk disk.old) place page.now 2 (device_of D.PageDisk disk.new)) }
-    ensures fails { OnErr result (FailsToReplace (device_of D.PageDisk disk.old) (device_of D.PageDisk disk.new)) }
+    ensures fails { OnErr result
+        (FailsToReplace (Some place) (device_of D.PageDisk disk.old) (device_of D.PageDisk disk.new)) }
     ensures any_moment { CallsLeaveOnly D.PageDisk disk.old disk.new
         (Written (D.images disk.old) place Plain page.now) }
     ensures durable { IsTrue D.tells → OnOk result (Only (D.now disk.new) (D.images disk.new)) }
@@ -52,7 +54,8 @@ pub fn replace<D: PageDisk>(disk: &mut D, place: u64, page: &Page) -> Result<(),
     requires { place < D.pages disk.old }
     ensures moves { OnOk result
         (WritesOnePage D.tells (device_of D.PageDisk disk.old) place page.now 3 (device_of D.PageDisk disk.new)) }
-    ensures fails { OnErr result (FailsToReplace (device_of D.PageDisk disk.old) (device_of D.PageDisk disk.new)) }
+    ensures fails { OnErr result
+        (FailsToReplace (Some place) (device_of D.PageDisk disk.old) (device_of D.PageDisk disk.new)) }
     ensures any_moment { CallsLeaveOnly D.PageDisk disk.old disk.new
         (IsReplaced (D.images disk.old) (D.now disk.old) place page.now) }
     ensures durable { IsTrue D.tells → OnOk result (Only (D.now disk.new) (D.images disk.new)) }
@@ -70,7 +73,8 @@ pub fn mark_in_use<D: PageDisk>(disk: &mut D, sup: &mut Super) -> Result<(), Dis
     ensures says { SaysInUse sup.old (mark_page sup.old) }
     ensures moves { OnOk result (WritesOnePage D.tells (device_of D.PageDisk disk.old) 0
         (mark_page sup.old) 3 (device_of D.PageDisk disk.new)) }
-    ensures fails { OnErr result (FailsToReplace (device_of D.PageDisk disk.old) (device_of D.PageDisk disk.new)) }
+    ensures fails { OnErr result
+        (FailsToReplace (Some 0) (device_of D.PageDisk disk.old) (device_of D.PageDisk disk.new)) }
     ensures any_moment { CallsLeaveOnly D.PageDisk disk.old disk.new
         (IsReplaced (D.images disk.old) (D.now disk.old) 0 (mark_page sup.old)) }
     ensures durable { IsTrue D.tells → OnOk result (Only (D.now disk.new) (D.images disk.new)) }
@@ -83,10 +87,11 @@ pub fn mark_in_use<D: PageDisk>(disk: &mut D, sup: &mut Super) -> Result<(), Dis
 }
 
 /// Flushes, in one device call.
-#[tactic(auto, using(crate::proofs::Moving::flushes, crate::proofs::Moving::fails))]
+#[tactic(auto, using(crate::proofs::Moving::flushes, crate::proofs::Moving::flush_fails))]
 pub fn flush_once<D: PageDisk>(disk: &mut D) -> Result<(), DiskFault>
     ensures flushed { OnOk result (IsFlushed (device_of D.PageDisk disk.old) (device_of D.PageDisk disk.new)) }
-    ensures fails { OnErr result (FailsToReplace (device_of D.PageDisk disk.old) (device_of D.PageDisk disk.new)) }
+    ensures fails { OnErr result
+        (FailsToReplace None (device_of D.PageDisk disk.old) (device_of D.PageDisk disk.new)) }
     ensures any_moment { CallsLeaveOnly D.PageDisk disk.old disk.new (D.images disk.old) }
     ensures durable { IsTrue D.tells → OnOk result (Only (D.now disk.new) (D.images disk.new)) }
     ensures pages { D.pages disk.new ≡ D.pages disk.old }

@@ -1,6 +1,7 @@
 //! Commands that are refused, and commands of a stopped store.
 
-ghost use Rattle.std.specs.Prelude.{◌≡◌, ◌≢◌, ◌<◌, None, Some, IsSome};
+ghost use Rattle.std.specs.Prelude.{◌≡◌, ◌≢◌, ◌<◌, ℕ, None, Some, IsSome};
+ghost use Rattle.volume_model.specs.declared.reply.Reply.TheVariants.{Stopped as AStopped};
 ghost use Rattle.store_model.specs.Cases.{IsRefusedBy};
 ghost use Rattle.store_model.specs.Cases as kind;
 ghost use Rattle.running_store.specs.TurnMade.{TurnMade};
@@ -11,7 +12,7 @@ ghost use Rattle.running_store.specs.Stages.{stage_seen};
 ghost use Rattle.store_model.specs.Cases.Halt.{MayLog, stage_after};
 ghost use Rattle.store_model.specs.Claiming.{Works};
 ghost use Rattle.store_model.specs.Filling.{FillStands};
-ghost use Rattle.running_store.specs.Steps.{decided, gone_on, Asks, IsPostedAt, OnlyRow};
+ghost use Rattle.running_store.specs.Steps.{decided, gone_on, Asks, IsPostedAt, log_with, OnlyRow, refused_with};
 
 use crate::giving_back::give_up;
 use crate::logging::log;
@@ -30,6 +31,8 @@ pub(crate) fn refuse<D: PageDisk>(running: &mut Running<D>, channel: u8, reply: 
         (λ command. IsRefusedBy (state_of D.PageDisk (view_of running.old)) command reply) }
     requires runs { running.old.stopped ≡ None }
     ensures case { TurnMade D.PageDisk (view_of running.old) (view_of running.new) kind.refuses }
+    ensures told { Asks (view_of running.old) channel (λ command.
+        running.new.entries.items ≡ log_with running.old.entries.items channel command reply) }
     ensures row { OnlyRow running.old.rows.items running.new.rows.items channel
         (decided (rows_of running.old.rows.items channel)) }
     ensures order { InOrder D.PageDisk running.new }
@@ -45,6 +48,8 @@ pub fn halt<D: PageDisk>(running: &mut Running<D>, channel: u8)
     requires unfilled { running.old.filling ≢ Some channel }
     requires stopped { IsSome running.old.stopped }
     ensures case { TurnMade D.PageDisk (view_of running.old) (view_of running.new) kind.halts }
+    ensures told { (at : ℕ) → running.old.stopped ≡ Some at → Asks (view_of running.old) channel (λ command.
+        running.new.entries.items ≡ log_with running.old.entries.items channel command (AStopped at)) }
     ensures row { OnlyRow running.old.rows.items running.new.rows.items channel
         (decided (rows_of running.old.rows.items channel)) }
     ensures order { InOrder D.PageDisk running.new }
@@ -104,6 +109,8 @@ pub fn refuse_or_halt<D: PageDisk>(running: &mut Running<D>, channel: u8, reply:
         → TurnMade D.PageDisk (view_of running.old) (view_of running.new) kind.refuses }
     ensures halted { IsSome running.old.stopped
         → TurnMade D.PageDisk (view_of running.old) (view_of running.new) kind.halts }
+    ensures told { Asks (view_of running.old) channel (λ command. running.new.entries.items
+        ≡ log_with running.old.entries.items channel command (refused_with running.old.stopped reply)) }
     ensures row { OnlyRow running.old.rows.items running.new.rows.items channel
         (decided (rows_of running.old.rows.items channel)) }
     ensures order { InOrder D.PageDisk running.new }

@@ -34,38 +34,6 @@ no_link : (blobs : Metas) (chains : Chains) (place : ℕ) → ((h : ℕ) → blo
 no_link blobs chains place none x = absurd (let bad = sym (ap (option_and_then (λ (m : Meta). chains x.head))
     (none x.head)) ∙ x.chain in cc bad)
 
--- before the first head they are as they were
-pub none_added : (blobs : Metas) (chains : Chains) (old : Masks) → AreWith (those_below blobs 0) chains old old
-none_added blobs chains old = record {
-  page_count = refl;
-  cluster_count = refl;
-  head_count = refl;
-  pages = λ place. (
-    λ set. inl set,
-    λ o. elim o [
-      | inl set ↦ set
-      | inr x ↦ no_link (those_below blobs 0) chains place nothing x
-    ],
-  );
-  clusters = λ cluster. (
-    λ set. inl set,
-    λ o. elim o [
-      | inl set ↦ set
-      | inr x ↦ absurd (let bad = sym (nothing x.head) ∙ x.there in cc bad)
-    ],
-  );
-  heads = λ head. (
-    λ set. inl set,
-    λ o. elim o [
-      | inl set ↦ set
-      | inr some ↦ absurd (let bad = subst (λ (o : Option Meta). IsSome o) (nothing head) some in cc bad)
-    ],
-  );
-}
-  where
-    nothing : (h : ℕ) → those_below blobs 0 h ≡ None
-    nothing h = below_past blobs 0 h (omega arith)
-
 module _ (blobs : Metas) (chains : Chains) (old now : Masks) (end : ℕ)
     (with : AreWith (those_below blobs end) chains old now) where
   -- a head without a blob adds nothing

@@ -1,12 +1,13 @@
 -- What is kept of a running store, at its start and over each turn.
-use Rattle.std.proofs.Common.{ℕ, ◌≡◌, [], ◌++◌, ◌∷◌, Some, None, refl, IsTrue}
+use Rattle.std.proofs.Common.{ℕ, ◌≡◌, [], ◌++◌, ◌∷◌, Some, None, refl, ap, ◌∙◌, IsTrue}
 use Rattle.std.specs.FinMap as map
 use Rattle.page_disk.specs.Disk.{Telling}
 use Rattle.page_disk.specs.Moments.{CallsLeaveOnly}
 use Rattle.page_disk.specs.declared.disk.PageDisk.{Ghosts}
 use Rattle.super_block.specs.Faults.{IsFaultless}
 use Rattle.super_block.specs.Placed.{IsPlaced}
-use Rattle.store_model.specs.Cases.{Kind}
+use Rattle.store_model.specs.Cases.{Kind, the}
+use Rattle.store_model.specs.Touches.{DoesTouch, no_new, puts, replaces, Touch, untouched}
 use Rattle.store_model.specs.StoreState.{JobState, Opens, shown}
 use Rattle.store_model.specs.StateLaws.{IsLoadedWith}
 use Rattle.store_model.specs.RunInvariant.{RunInvariant}
@@ -20,6 +21,14 @@ use Rattle.store_core.specs.StoreInvariant.{OpensAsRead, StoreInvariant, opening
 use Rattle.running_store.specs.TurnMade.{TurnMade}
 use Rattle.running_store.specs.StoreView.{StoreView, WithOpening, base_of, state_of}
 use Rattle.running_store.specs.Surviving.{OldOrNew}
+
+-- no touch changes how many pages the device has
+same_pages : {D : Type 0} (d : Ghosts D) (old new : D) (touch : Touch) → DoesTouch d old new touch
+    → d.pages new ≡ d.pages old
+same_pages d old new untouched same = ap d.pages same
+same_pages d old new (puts page content lasting) does = does.pages
+same_pages d old new (replaces page content lasting) does = does.pages
+same_pages d old new (no_new lasting) does = does.pages
 
 module _ {D : Type 0} (d : Ghosts D) (laws : CrashLaws)
     (law : IsTrue d.tells → Telling d.now d.images d.since d.clock) where
@@ -39,6 +48,7 @@ module _ {D : Type 0} (d : Ghosts D) (laws : CrashLaws)
         survives = λ read. survives_start d laws read.one.0 law p.super placed (shown (state_of d p))
             (opening_script p) (state_of d p) p.disk refl refl opens.log opens.marks opens.stopped opens.job facts
             read.one.1 read.holds;
+        pages = refl;
         images = images;
       }
 
@@ -86,6 +96,8 @@ module _ {D : Type 0} (d : Ghosts D) (laws : CrashLaws)
       placed = kept.placed;
       named = kept.named;
       survives = λ read. turns.survives d (over read) kind made.0 made.1;
+      pages = same_pages d p.at.disk q.disk ((the kind).touch d.tells (state_of d p.at) (state_of d q) made.0) made.1
+          ∙ kept.pages;
       images = images;
     }
 

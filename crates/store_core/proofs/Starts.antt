@@ -21,7 +21,7 @@ use Rattle.volume_model.specs.declared.reply.Entry.{Entry}
 use Rattle.store_model.specs.Filling.{unused_row}
 use Rattle.store_model.specs.Rows.{entries_of, fill_row, Row, Idle, Ended}
 use Rattle.store_model.proofs.WithEntry.{given_here, given_elsewhere}
-use Rattle.store_core.specs.Opening.{AreGuardsAtStart, AreRows, IsLiveAtStart, row_at_start}
+use Rattle.store_core.specs.Opening.{AreRows, IsLiveAtStart, row_at_start}
 use Rattle.store_core.specs.Removing.{those_below}
 use Rattle.running_store.specs.StoreView.{rows_of}
 use Rattle.running_store.proofs.Maps.{insert_given}
@@ -149,19 +149,6 @@ module _ (metas : Metas) (guards : GuardsState) (room end : ℕ)
       given : map.get (map.insert guards.generations end (guards.drawn + 1))
           ≡ with_entry (map.get guards.generations) end (guards.drawn + 1)
       given = insert_given guards.generations end (guards.drawn + 1)
-
-  pub guards_all : ((h : ℕ) → end ≤ h → metas h ≡ None) → AreGuardsAtStart metas guards
-  guards_all past = record {
-    generations =
-        subst (λ (base : Metas). AreGenerations base (map.get guards.generations) guards.drawn) all so_far.generations;
-    none_frozen = so_far.none_frozen;
-  }
-    where
-      all : those_below metas end ≡ metas
-      all = fun_ext (λ h. elim (cases_lt h end) [
-        | inl lt ↦ below_in metas end h lt
-        | inr ge ↦ below_past metas end h ge ∙ sym (past h ge)
-      ])
 
 -- the rows of the channels below this, and the script that is left
 pub record RowsBelow (script left : List (List Command)) (channels : ℕ) (rows : List Row) (end : ℕ) : Type 0 where

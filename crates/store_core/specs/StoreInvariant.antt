@@ -37,5 +37,7 @@ pub record StoreInvariant {D : Type 0} (d : Ghosts D) (p : WithOpening D) : Type
   pub placed : IsPlaced p.opening.super
   pub named : AreNamedAlike (shown (state_of d p.opening))
   pub survives : OpensAsRead d p.opening → StoreSurvives d p.opening.super (shown (state_of d p.opening)) p.at
+  -- the device has as many pages as it had
+  pub pages : d.pages p.at.disk ≡ d.pages p.opening.disk
   pub images : OpensAsRead d p.opening
       → CleanImages d p.opening.super (d.now p.opening.disk) (state_of d p.at) p.at.disk

@@ -4,12 +4,13 @@ use Rattle.std.proofs.Math.Path.{fun_ext}
 use Rattle.page_disk.specs.Disk.{Image}
 use Rattle.super_block.specs.declared.page.Super.{Super}
 use Rattle.super_block.specs.Placed.{IsPlaced}
-use Rattle.volume_model.specs.Volumes.{Volumes}
+use Rattle.volume_model.specs.Volumes.{Fixed, Volumes}
+use Rattle.volume_model.specs.Xattrs.{Xattrs}
 use Rattle.volume_model.specs.Logs.{stable, IsSettled}
 use Rattle.volume_model.specs.declared.reply.Entry.{Entry}
 use Rattle.blob_meta.specs.declared.meta.Meta.{Meta}
 use Rattle.blob_meta.specs.Resolving.{resolved, IsLawful}
-use Rattle.store_model.specs.Maps.{Chains, Metas}
+use Rattle.store_model.specs.Maps.{Chains, Map, Metas}
 use Rattle.store_model.specs.Recovers.{AgreeAt, HasStore, Recovers, RecoversAt, RecoversFrom}
 use Rattle.store_model.specs.Regions.{look_of, region_of}
 use Rattle.store_model.specs.Scans.{Says}
@@ -17,12 +18,13 @@ use Rattle.store_model.specs.Shown.{fixed_of, shown_by, shows}
 use Rattle.store_model.specs.StateLaws.{IsSameBehind}
 use Rattle.store_model.specs.Surviving.{CanBeLoaded}
 use Rattle.shown_volumes.specs.Shown.{or_empty, volume_of}
+use Rattle.store_model.proofs.Contents.{synced}
 use Rattle.store_model.proofs.Scanning.{same_region}
 use Rattle.store_model.proofs.Shows.{shown_agree}
 use Rattle.store_model.proofs.StandsKept.{all_behind}
 
 -- what is shown with each attribute live as it is synced
-shows_live : (s : Super) (image : Image) (metas : Metas)
+pub shows_live : (s : Super) (image : Image) (metas : Metas)
     → shows (fixed_of s) image metas
     ≡ shown_by (fixed_of s) image metas (λ head. option_map (λ m. m.xattrs) (metas head))
 shows_live s image metas = fun_ext (λ head. at head (metas head))
@@ -34,6 +36,16 @@ shows_live s image metas = fun_ext (λ head. at head (metas head))
     at head None = refl
     at head (Some m) = refl
 
+-- what is shown is, of what these live attributes show, what survives
+pub shows_synced : (f : Fixed) (image : Image) (metas : Metas) (live : Map Xattrs) (head : ℕ)
+    → shows f image metas head ≡ synced (shown_by f image metas live head)
+shows_synced f image metas live head = at (metas head)
+  where
+    at : (o : Option Meta) → option_map (λ m. volume_of f.cluster_pages image metas f.md_len m.xattrs head m) o
+        ≡ synced (option_map (λ m. volume_of f.cluster_pages image metas f.md_len (or_empty (live head)) head m) o)
+    at None = refl
+    at (Some m) = refl
+
 module _ (s : Super) (placed : IsPlaced s) (image other : Image) (store : HasStore s other)
     (region : (q : ℕ) → q < s.md_len → other (s.md_start + q) ≡ image (s.md_start + q))
     (behind : IsSameBehind s image other) where
@@ -44,7 +56,7 @@ module _ (s : Super) (placed : IsPlaced s) (image other : Image) (store : HasSto
       same_region (look_of (region_of s) image) (region_of s) metas chains says (look_of (region_of s) other) region
 
   -- and shows the same volumes,
-  shows_same : (metas : Metas) (chains : Chains) → Says (region_of s) metas chains image
+  pub shows_same : (metas : Metas) (chains : Chains) → Says (region_of s) metas chains image
       → IsLawful s.md_len (resolved metas)
       → shows (fixed_of s) other (resolved metas) ≡ shows (fixed_of s) image (resolved metas)
   shows_same metas chains says lawful =

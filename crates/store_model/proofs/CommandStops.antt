@@ -1,5 +1,5 @@
 -- A store that stops in a turn of a job whose command waits for the commit: the command is logged as failed.
-use Rattle.std.proofs.Common.{◌≡◌, None, true, refl, subst, sym, ap}
+use Rattle.std.proofs.Common.{◌≡◌, ◌≤◌, None, true, refl, subst, sym, ap}
 use Rattle.volume_model.specs.declared.reply.Reply.TheVariants as r
 use Rattle.store_model.specs.Device.{Device}
 use Rattle.store_model.specs.Jobs.{ReadsZeros}
@@ -7,7 +7,7 @@ use Rattle.store_model.specs.Phases.{has_commit, Phase}
 use Rattle.store_model.specs.Rows.{Answered, Decided, Row}
 use Rattle.store_model.specs.RunInvariant.{RunInvariant}
 use Rattle.store_model.specs.StoreState.{logged, StoreState}
-use Rattle.store_model.specs.Turning.{FailsToReplace, IsServedNow, Runs, stopped_now}
+use Rattle.store_model.specs.Turning.{IsServedNow, Runs, stopped_now}
 use Rattle.store_model.proofs.FailedCommands.{failed_keeps}
 use Rattle.store_model.proofs.JobKept.{no_other, served_does}
 use Rattle.store_model.proofs.Known.{Known}
@@ -15,7 +15,7 @@ use Rattle.store_model.proofs.LeftToDo.{may_fail}
 use Rattle.store_model.proofs.Shaped.{decided_may, shaped_with, waits_for_commit}
 
 module _ (known : Known) {phase : Phase} (running : Runs known.p phase) (now_served : IsServedNow known.p running.job)
-    (ahead : has_commit running.job.todo ≡ true) (device : Device) (fails : FailsToReplace known.p.device device) where
+    (ahead : has_commit running.job.todo ≡ true) (device : Device) (later : known.p.device.clock ≤ device.clock) where
   open known use {s, placed, first, script, p, facts}
   open now_served use {channel, serves, command, rest, row}
 
@@ -31,7 +31,7 @@ module _ (known : Known) {phase : Phase} (running : Runs known.p phase) (now_ser
       subst (RunInvariant s first script) (sym next)
       (failed_keeps known channel command rest device (Decided Answered) None
       (ap (λ (r : Row). r.left) row) running.runs
-      fails.clock may
+      later may
       (shaped_with p facts.shaped now channel _ refl
       (no_other known j running.is channel (waits_for_commit j channel serves ahead) now) (decided_may now channel rest)
       (λ job c bad serves waits. absurd (cc bad)))

@@ -1,17 +1,14 @@
 -- Lists that are cut to a length, or lengthened to it by one value; maps among them.
 use Rattle.std.proofs.Common.{◌≡◌, ℕ, zero, suc, ◌-◌, ◌<◌, ◌≤◌, Bool, List, [], ◌∷◌, ◌++◌, length, Option}
 use Rattle.std.proofs.Common.{Some, None, refl, sym, ap, ◌∙◌, inl, inr, arith, length-append, subst}
-use Rattle.std.specs.Prelude.{find, if◌then◌else◌, is_none, replicate, slice_get, take}
-use Rattle.std.specs.List.{position}
+use Rattle.std.specs.Prelude.{find, if◌then◌else◌, replicate, slice_get, take}
 use Rattle.std.specs.Option.{option_and_then}
-use Rattle.std.proofs.lemmas.Bool.{cases_lt, false≢true}
-use Rattle.std.proofs.lemmas.List.{append-nil, get_or-take, length-replicate, length-take-le, take_all}
-use Rattle.std.proofs.lemmas.List.Quantifiers.{position-Some}
+use Rattle.std.proofs.lemmas.Bool.{cases_lt}
+use Rattle.std.proofs.lemmas.List.{append-nil, length-replicate, length-take-le, take_all}
 use Rattle.std.proofs.lemmas.Option.{slice_get_past}
 use Rattle.blob_meta.specs.Faults.{clusters_held, is_outside}
-use Rattle.blob_meta.proofs.ClustersOutside.{clusters-append}
 use Rattle.shown_volumes.proofs.Inside.{passes}
-use Rattle.store_model.proofs.NewBlob.{empty_slot, none_in}
+use Rattle.store_model.proofs.NewBlob.{empty_slot}
 pub use Rattle.shown_volumes.proofs.MapTests.{all_full, slot_in}
 
 -- so many elements: the first ones, and then as many of this value as are wanting
@@ -89,29 +86,3 @@ module _ (fixed clusters : ℕ) where
       let parts = passes fixed clusters c (clusters_held map) none in
       subst (λ (b : Bool). (if b then Some c else find (is_outside fixed clusters) (clusters_held (take n map))) ≡ None)
       (sym parts.0) (inside_take map n parts.1)
-
-  -- no cluster lies outside that didn't
-  pub inside_cut : (map : List (Option ℕ)) (slots : ℕ) → find (is_outside fixed clusters) (clusters_held map) ≡ None
-      → find (is_outside fixed clusters) (clusters_held (cut map slots None)) ≡ None
-  inside_cut map slots none = elim (cases_lt (length map) slots) [
-    | inl longer ↦
-        ap (λ m. find (is_outside fixed clusters) (clusters_held m)) (is_longer map slots None (omega (arith, longer)))
-        ∙ ap (find (is_outside fixed clusters)) (clusters-append map (replicate (slots - length map) None)
-        ∙ ap (λ cs. clusters_held map ++ cs) (none_in (slots - length map)) ∙ append-nil (clusters_held map))
-        ∙ none
-    | inr le ↦
-        ap (λ m. find (is_outside fixed clusters) (clusters_held m)) (is_cut map slots None le)
-        ∙ inside_take map slots none
-  ]
-
-pub full_cut : (map : List (Option ℕ)) (n : ℕ) → n ≤ length map → position is_none map ≡ None
-    → position is_none (take n map) ≡ None
-full_cut map n le none = by (position is_none (take n map)) refl
-  where
-    by : (o : Option ℕ) → position is_none (take n map) ≡ o → position is_none (take n map) ≡ None
-    by None is = is
-    by (Some i) is =
-        let some = position-Some is_none (take n map) i None is in
-        let low : i < n = omega (arith, some.0, length-take-le n map le) in
-        let full = all_full map none i (omega (arith, low, le)) in
-        absurd (false≢true (sym full ∙ ap is_none (sym (get_or-take n map i None low)) ∙ some.1))

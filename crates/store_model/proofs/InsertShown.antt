@@ -10,7 +10,6 @@ use Rattle.store_model.specs.Claiming.{stage_behind}
 use Rattle.store_model.specs.Copying.{AreCopied, HasCopied, LeavesSlotsEmpty}
 use Rattle.store_model.specs.Inserting.{with_slot}
 use Rattle.store_model.specs.Jobs.{InsertStands, IsLeftOfInsert, PutsClaim}
-use Rattle.store_model.specs.Steady.{IsStored}
 use Rattle.store_model.specs.Maps.{Metas, with_entry}
 use Rattle.store_model.specs.Phases.{page_in, Phase, rechained, replaced}
 use Rattle.store_model.specs.Phases.{Replaces, Replacing}
@@ -99,9 +98,6 @@ module _ (known : Known) where
     base_all =
         let one : t.new ≡ with_slot old claim.slot claim.cluster = let both = sym t.new_is ∙ put.new in cc both in
         ap (λ h. with_entry p.base h t.new) put.head ∙ ap (with_entry p.base claim.head) one
-
-    pub new_stored : IsStored p.super r.head t.new
-    new_stored = can.stored t.new t.new_is
 
     -- no blob has a mark then
     pub now_unmarked : HasNoMarks now.base

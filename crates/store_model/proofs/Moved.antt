@@ -1,25 +1,5 @@
 -- What is known of a job and of used places, on a state with the same parts.
-use Rattle.std.proofs.Common.{
-  [],
-  ◌∷◌,
-  ◌++◌,
-  ◌/◌,
-  ◌≡◌,
-  ℕ,
-  Bool,
-  List,
-  Option,
-  Some,
-  None,
-  refl,
-  sym,
-  ◌∙◌,
-  ap,
-  subst,
-  inl,
-  inr,
-  true,
-}
+use Rattle.std.proofs.Common.{[], ◌∷◌, ◌++◌, ◌/◌, ◌≡◌, ℕ, List, Option, Some, None, refl, sym, ◌∙◌, ap, subst, true}
 use Rattle.std.specs.Option.{option_map, option_map_or}
 use Rattle.std.proofs.Math.Path.{fun_ext}
 use Rattle.volume_model.specs.Volumes.{Volume, Volumes}
@@ -31,7 +11,6 @@ use Rattle.store_model.specs.Maps.{Map}
 use Rattle.store_model.specs.Shown.{fixed_of, volume_of}
 use Rattle.store_model.specs.Rows.{OpenClaim, Rows, Row, InJob}
 use Rattle.store_model.specs.StoreState.{JobState, StoreState, shown, ForCommand, ForInsert, ForRepair, Service}
-use Rattle.store_model.specs.Places.{IsClaimed, UsedClusters, IsMapped}
 use Rattle.page_disk.specs.Disk.{Image}
 use Rattle.super_block.specs.Numbers.{cluster_pages_of}
 use Rattle.md_chain.specs.Chain.{is_among}
@@ -40,7 +19,7 @@ use Rattle.store_model.specs.Cases.{live_of}
 use Rattle.store_model.specs.RunInvariant.{CanBeWritten, RunsWell}
 use Rattle.store_model.proofs.Shows.{or_empty}
 use Rattle.store_model.proofs.Writable.{AllWritable, OnlyLive}
-use Rattle.store_model.specs.Phases.{Erases, Frees, has_commit, Marks, Phase, Replaces, Writes, Zeros}
+use Rattle.store_model.specs.Phases.{Erases, Frees, Marks, Phase, Replaces, Writes, Zeros}
 
 -- what is read of claimed clusters is read still
 pub zeroed_still : (s : Super) (claimed zeros : List ℕ) (image other : Image)
@@ -128,27 +107,6 @@ stands_same p q super base chains live generations j rows reads x =
             puts = puts_same p q base generations row same j.todo y.puts;
           };
     }
-
--- the row of a command that waits for the commit is in the job
-pub row_in_job : (p : StoreState) (j : JobState) → JobStands p j → (channel : ℕ) → j.serves ≡ ForCommand channel
-    → has_commit j.todo ≡ true
-    → (p.rows channel).stage ≡ InJob
-row_in_job p j x channel serves waits = ap (λ (r : Row). r.stage) (x.served channel serves waits).row
-
-pub clusters_same : (s : Super) (bits : List Bool) (metas others : Map Meta) (rows : Rows)
-    → ((c : ℕ) → IsMapped metas c → IsMapped others c) → ((c : ℕ) → IsMapped others c → IsMapped metas c)
-    → UsedClusters s bits metas (IsClaimed rows) → UsedClusters s bits others (IsClaimed rows)
-clusters_same s bits metas others rows there back u = record {
-  count = u.count;
-  fixed = u.fixed;
-  mapped = λ c is. u.mapped c (back c is);
-  claimed_too = u.claimed_too;
-  no_other = λ c is. elim (u.no_other c is) [
-    | inl low ↦ inl low
-    | inr rest ↦ elim rest [ inl mapped ↦ inr (inl (there c mapped)) | inr claimed ↦ inr (inr claimed) ]
-  ];
-  apart = λ c x. let y = u.apart c x in (y.0, λ mapped. y.1 (back c mapped));
-}
 
 -- ---- live attributes
 

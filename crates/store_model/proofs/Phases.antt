@@ -131,9 +131,6 @@ lays_old s base chains old (p ∷ q ∷ ps) others all begin lays = (
 pub no_commit : (old places : List ℕ) → has_commit (erasing old places []) ≡ false
 no_commit old places = commit_old old places []
 
-pub held_clearing : (old places : List ℕ) → (places ≡ [] → old ≡ []) → held_in (erasing old places []) ≡ old
-held_clearing old places same = held_old old places [] same refl ∙ append-nil old
-
 pub keeps_clearing : (base : Metas) (old places : List ℕ) → Keeps base (erasing old places [])
 keeps_clearing base old places = keeps_old base old places [] tt
 

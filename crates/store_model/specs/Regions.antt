@@ -1,5 +1,5 @@
 -- The metadata region of a device, and the numbers of a store by which metadata is tested.
-use Rattle.std.specs.Prelude.{ℕ, ◌+◌, ◌<◌, ◌≤◌, ◌⊎◌}
+use Rattle.std.specs.Prelude.{ℕ, ◌+◌}
 use Rattle.page_disk.specs.Disk.{Image}
 use Rattle.super_block.specs.declared.page.Super.{Super}
 use Rattle.super_block.specs.Numbers.{clusters_of, fixed_clusters_of}
@@ -19,7 +19,3 @@ region_of s = record { start = s.md_start; len = s.md_len; fixed = fixed_cluster
 -- the page at each place of the region
 abbrev pub look_of : MdRegion → Image → Look
 look_of r image place = image (r.start + place)
-
--- a page that isn't of the region
-abbrev pub Outside : MdRegion → ℕ → Type 0
-Outside r page = (page < r.start) ⊎ (r.start + r.len ≤ page)

@@ -1,7 +1,7 @@
 -- What a scan of the metadata region says: the blobs of a store, each with its metadata and its chain.
 use Rattle.std.specs.Prelude.{◌≡◌, ◌⊎◌, ℕ, ◌&&◌, ◌==◌, nat_lt, Bool, false, List, Option, Some, None}
 use Rattle.crc32c.specs.Crc.{is_sound}
-use Rattle.page_disk.specs.Disk.{Image, Images}
+use Rattle.page_disk.specs.Disk.{Image}
 use Rattle.md_page.specs.Page.{id_of, sequence_of}
 use Rattle.descriptors.specs.declared.item.Item.{Item}
 use Rattle.blob_meta.specs.declared.meta.Meta.{Meta}
@@ -49,9 +49,6 @@ Scanned look r metas chains = (head : ℕ) → BlobAt look r head (metas head) (
 -- An image says this metadata, by these chains.
 abbrev pub Says : MdRegion → Metas → Chains → Image → Type 0
 Says r metas chains image = Scanned (look_of r image) r metas chains
-
-abbrev pub AllSay : MdRegion → Images → Metas → Chains → Type 0
-AllSay r images metas chains = (image : Image) → images image → Says r metas chains image
 
 -- no chain has the place
 abbrev pub Unlinked : Chains → ℕ → Type 0

@@ -106,7 +106,7 @@ pub record StateLaws : Type 0 where
       → HasStore s image → Says (region_of s) p.base p.chains image → IsSameBehind s p.device.reads image
       → Recovers s first p.log image
 
--- what one turn does to a store that stops
+-- what runs log and count of failed reads, writes and flushes
 pub record StopLaws : Type 0 where
   -- a run that begins running and ends stopped has counted a failed write or flush, or the count stands at its last
   -- number
@@ -121,6 +121,9 @@ pub record StopLaws : Type 0 where
       → All (λ e. IsQuiet e.reply) q.log
   pub fault : (told : Bool) (p q : StoreState) (kinds : List Kind) → Run told p kinds q → p.log ≡ []
       → (k : ℕ) (e : Entry) → slice_get q.log k ≡ Some e → e.reply ≡ r.Fault → q.stopped ≡ Some k
+  -- a run whose log has a `read fault` has counted a failed read, or the count stands at its last number
+  pub read : (told : Bool) (p q : StoreState) (kinds : List Kind) → Run told p kinds q → p.log ≡ []
+      → All (λ e. e.reply ≡ r.ReadFault → Rose p.device.read_faults q.device.read_faults) q.log
 
 -- the pages that a job writes
 pub record JobLaws : Type 0 where

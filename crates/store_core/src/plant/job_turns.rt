@@ -19,7 +19,7 @@ impl<D: PageDisk> Plant<D> {
     ghost use Rattle.job_begins.specs.declared.begin.BeginTurn.TheVariants.{Logged as LoggedNow};
     ghost use Rattle.page_disk.specs.Moments.{CallsLeaveOnly};
     ghost use Rattle.running_store.specs.Requests.{IsPostedBy};
-    ghost use Rattle.running_store.specs.Steps.{decided, Asks, OnlyRow};
+    ghost use Rattle.running_store.specs.Steps.{decided, Asks, log_with, OnlyRow, refused_with};
     ghost use Rattle.running_store.specs.StoreView.{base_of, rows_of, state_of};
     ghost use Rattle.running_store.specs.Surviving.{OldOrNew};
     ghost use Rattle.store_core.specs.StoreInvariant.{OpensAsRead};
@@ -58,6 +58,9 @@ impl<D: PageDisk> Plant<D> {
             → Asks self.old.at msg.channel (λ command. IsRefusedBy (state_of D.PageDisk self.old.at) command reply) }
         ensures refused { self.old.at.stopped ≡ None → TurnMade D.PageDisk self.old.at self.new.at kind.refuses }
         ensures halted { IsSome self.old.at.stopped → TurnMade D.PageDisk self.old.at self.new.at kind.halts }
+        // The entry has the reply that is given.
+        ensures told { Asks self.old.at msg.channel (λ command. self.new.at.log
+            ≡ log_with self.old.at.log msg.channel command (refused_with self.old.at.stopped reply)) }
         ensures row { OnlyRow self.old.at.rows self.new.at.rows msg.channel
             (decided (rows_of self.old.at.rows msg.channel)) }
         ensures opening { self.new.opening ≡ self.old.opening }

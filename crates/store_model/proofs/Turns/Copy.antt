@@ -23,7 +23,7 @@ use Rattle.store_model.proofs.CopyTurning.{claimed_facts, claimed_images, slots_
 use Rattle.store_model.proofs.Going.{left_of, told_reads}
 use Rattle.store_model.proofs.Holding.{put_elsewhere, put_here}
 use Rattle.store_model.proofs.Known.{Known}
-use Rattle.store_model.proofs.Over.{Effect, ImageLaw, known_of, moves, nothing, Over, TurnLaw}
+use Rattle.store_model.proofs.Over.{Effect, ImageLaw, known_of, moves, no_less, nothing, Over, TurnLaw}
 use Rattle.store_model.proofs.RowsKept.{row_here, row_other}
 use Rattle.store_model.proofs.Shaped.{holding_may}
 use Rattle.store_model.proofs.StateKept.{claim_facts, held_here, not_in_job}
@@ -177,7 +177,7 @@ pub law : TurnLaw case.kind
 law = record {
   keeps = λ _ told known q t. keeps known told q t;
   effect = λ told p q t. subst (Effect p) (sym t.next)
-      (record { goes = moves t.runs refl t.write_faults; logs = nothing refl refl });
+      (record { goes = moves t.runs refl t.write_faults (no_less t.read_faults); logs = nothing refl refl });
   images = images;
   job = λ of. absurd of;
 }

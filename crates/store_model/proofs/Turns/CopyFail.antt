@@ -13,7 +13,7 @@ use Rattle.store_model.proofs.CopyTurning.{claimed_fails}
 use Rattle.store_model.proofs.GivenBack.{logged_from, logged_work, logged_work_facts, stopped_facts}
 use Rattle.store_model.proofs.Known.{Known}
 use Rattle.store_model.proofs.Refusals.{RefusalsChangeNothing}
-use Rattle.store_model.proofs.Over.{breaks, Effect, fault, ImageLaw, Over, TurnLaw}
+use Rattle.store_model.proofs.Over.{breaks, Effect, fault, ImageLaw, no_less, Over, TurnLaw}
 use Rattle.store_model.proofs.Shapes.{unwritten_fails}
 use Rattle.store_model.proofs.Shaped.{idle_may}
 
@@ -59,7 +59,7 @@ law = record {
   effect = λ told p q t.
       let x = logged_work t.logs in
       subst (Effect p) (sym x.next) (record {
-        goes = breaks t.runs refl t.fails.write_faults;
+        goes = breaks t.runs refl t.fails.write_faults (no_less t.fails.read_faults);
         logs = fault (entry_of p.log x.channel x.command r.Fault) refl refl refl refl;
       });
   images = λ d x t does. by d x t t.tried;

@@ -40,8 +40,9 @@ law = record {
   effect = λ told p q t.
       let x = logged_work t.logs in
       subst (Effect p) (sym x.next) (record {
-        goes = moves t.runs refl t.failed.write_faults;
-        logs = answer (entry_of p.log x.channel x.command r.ReadFault) refl refl tt t.runs;
+        goes = moves t.runs refl t.failed.write_faults t.failed.later;
+        logs = answer (entry_of p.log x.channel x.command r.ReadFault) refl refl tt t.runs
+            (λ _. t.failed.read_faults);
       });
   images = λ d x t does.
       let y = logged_work t.logs in

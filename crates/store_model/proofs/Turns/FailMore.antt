@@ -8,15 +8,15 @@ use Rattle.store_model.specs.Rows.{entry_of}
 use Rattle.store_model.specs.StoreState.{StoreState, turns_left}
 use Rattle.store_model.proofs.CommandStops.{command_stops}
 use Rattle.store_model.proofs.MoreTried.{more_stops}
-use Rattle.store_model.proofs.Over.{breaks, Effect, fault, TurnLaw}
+use Rattle.store_model.proofs.Over.{breaks, Effect, fault, no_less, TurnLaw}
 use Rattle.store_model.proofs.Progress.{logs_served, no_job, turns_here}
 
 pub law : TurnLaw case.kind
 law = record {
-  keeps = λ _ told known q t. command_stops known t.running t.served t.waits t.device t.fails q t.next;
+  keeps = λ _ told known q t. command_stops known t.running t.served t.waits t.device t.fails.clock q t.next;
   effect = λ told p q t. subst (Effect p) (sym t.next)
       (record {
-        goes = breaks t.running.runs refl t.fails.write_faults;
+        goes = breaks t.running.runs refl t.fails.write_faults (no_less t.fails.read_faults);
         logs = fault (entry_of p.log t.served.channel t.served.command r.Fault) refl refl refl refl;
       });
   images = λ d x t does. more_stops d x t.replacing t.running

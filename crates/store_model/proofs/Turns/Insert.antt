@@ -11,7 +11,7 @@ use Rattle.store_model.specs.Cases.Insert.{Inserts}
 use Rattle.store_model.proofs.HeadImages.{head_images}
 use Rattle.store_model.proofs.Heads.{rechained_is, replaced_is}
 use Rattle.store_model.proofs.InsertTurning.{keeps}
-use Rattle.store_model.proofs.Over.{Effect, ImageLaw, moves, nothing, Over, TurnLaw, unchanged}
+use Rattle.store_model.proofs.Over.{Effect, ImageLaw, moves, no_less, nothing, Over, TurnLaw, unchanged}
 
 -- ---- its images: the old metadata or the new, and behind it the new
 
@@ -32,7 +32,10 @@ pub law : TurnLaw case.kind
 law = record {
   keeps = λ _ told known q t. keeps known told q t;
   effect = λ told p q t. subst (Effect p) (sym t.next)
-      (record { goes = moves t.running.runs refl t.moves.write_faults; logs = nothing refl refl });
+      (record {
+        goes = moves t.running.runs refl t.moves.write_faults (no_less t.moves.read_faults);
+        logs = nothing refl refl;
+      });
   images = λ d x t does. images d x t does;
   job = λ of. absurd of;
 }

@@ -43,7 +43,7 @@ use Rattle.store_model.proofs.Guarding.{none_frozen_by, none_guarded}
 use Rattle.store_model.proofs.JobKept.{copied_put, held_is, held_low, no_other, written_same}
 use Rattle.store_model.proofs.Known.{Known}
 use Rattle.store_model.proofs.LeftToDo.{among_left}
-use Rattle.store_model.proofs.Over.{Effect, known_of, moves, nothing, TurnLaw}
+use Rattle.store_model.proofs.Over.{Effect, known_of, moves, no_less, nothing, TurnLaw}
 use Rattle.store_model.proofs.RowsKept.{row_same}
 use Rattle.store_model.proofs.Shaped.{outcome_may, shaped_with}
 use Rattle.store_model.proofs.Shapes.{place_images}
@@ -153,7 +153,10 @@ pub law : TurnLaw case.kind
 law = record {
   keeps = λ _ told known q t. keeps known told q t;
   effect = λ told p q t. subst (Effect p) (sym t.next)
-      (record { goes = moves t.running.runs refl t.moves.write_faults; logs = nothing refl refl });
+      (record {
+        goes = moves t.running.runs refl t.moves.write_faults (no_less t.moves.read_faults);
+        logs = nothing refl refl;
+      });
   images = λ d x t does.
       let none : x.q.job ≡ None = ap (λ (v : StoreState). v.job) t.next in
       place_images d x t.running.runs t.place (is_held (known_of x) d.tells x.q t) zero_page (x.laws.jobs.zeros t.place)

@@ -20,7 +20,7 @@ use Rattle.store_model.proofs.InsertTried.{insert_way}
 use Rattle.store_model.proofs.Known.{Known}
 use Rattle.store_model.proofs.LeftToDo.{put_quiet}
 use Rattle.store_model.proofs.Refusals.{RefusalsChangeNothing}
-use Rattle.store_model.proofs.Over.{breaks, Effect, fault, ImageLaw, Over, TurnLaw}
+use Rattle.store_model.proofs.Over.{breaks, Effect, fault, ImageLaw, no_less, Over, TurnLaw}
 use Rattle.store_model.proofs.Shapes.{place_fails}
 use Rattle.store_model.proofs.SuperMarked.{mark_fails}
 
@@ -74,7 +74,7 @@ law = record {
   effect = λ told p q t.
       let x = logged_work t.logs in
       subst (Effect p) (sym x.next) (record {
-        goes = breaks t.running.runs refl t.fails.write_faults;
+        goes = breaks t.running.runs refl t.fails.write_faults (no_less t.fails.read_faults);
         logs = fault (entry_of p.log x.channel x.command r.Fault) refl refl refl refl;
       });
   images = λ d x t does. at_head d x t t.phase t.running t.inserting t.tried;

@@ -53,7 +53,7 @@ law = record {
       let y = t.fill.posted in
       subst (Effect p) (sym t.next) (record {
         goes = stays refl refl;
-        logs = answer (entry_of p.log y.channel y.command r.Full) refl refl tt t.fill.runs;
+        logs = answer (entry_of p.log y.channel y.command r.Full) refl refl tt t.fill.runs (λ bad. cc bad);
       });
   images = λ d x t does.
       let y = t.fill.posted in

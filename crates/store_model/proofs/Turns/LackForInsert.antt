@@ -28,12 +28,13 @@ module _ (reply : Reply) (ends : EndsWork reply) where
       (not_in_job known _ _ posted.is (λ bad. cc bad)) reply q (logged_work logs) ends
 
   module _ (p q : StoreState) (row : ℕ) (logs : LogsWork p row (Decided Answered) reply p.device q) where
-    effect : IsQuiet reply → p.stopped ≡ None → Effect p q
-    effect quiet runs =
+    effect : IsQuiet reply → (reply ≡ r.ReadFault → ⊥) → p.stopped ≡ None → Effect p q
+    effect quiet unread runs =
         let x = logged_work logs in
         subst (Effect p) (sym x.next) (record {
           goes = stays refl refl;
-          logs = answer (entry_of p.log x.channel x.command reply) refl refl quiet runs;
+          logs = answer (entry_of p.log x.channel x.command reply) refl refl quiet runs
+              (λ bad. absurd (unread bad));
         })
 
     idle : Idles p q
@@ -45,7 +46,7 @@ module _ (reply : Reply) (ends : EndsWork reply) where
 pub law : TurnLaw pages.kind
 law = record {
   keeps = λ below told known q t. keeps r.NoPage tt below.refusals known t.serial t.posted q t.logs;
-  effect = λ told p q t. effect r.NoPage tt p q t.posted.row t.logs tt t.runs;
+  effect = λ told p q t. effect r.NoPage tt p q t.posted.row t.logs tt (λ bad. cc bad) t.runs;
   images = λ d x t does. untouched_images d x does (idle r.NoPage tt x.p x.q t.posted.row t.logs);
   job = λ of. absurd of;
 }
@@ -53,7 +54,7 @@ law = record {
 pub memory_law : TurnLaw memory.kind
 memory_law = record {
   keeps = λ below told known q t. keeps r.Memory tt below.refusals known t.serial t.posted q t.logs;
-  effect = λ told p q t. effect r.Memory tt p q t.posted.row t.logs tt t.runs;
+  effect = λ told p q t. effect r.Memory tt p q t.posted.row t.logs tt (λ bad. cc bad) t.runs;
   images = λ d x t does. untouched_images d x does (idle r.Memory tt x.p x.q t.posted.row t.logs);
   job = λ of. absurd of;
 }

@@ -28,7 +28,7 @@ use Rattle.store_model.proofs.JobKept.{claimed_behind, held_low, IsPassed, lays_
 use Rattle.store_model.proofs.Known.{Known}
 use Rattle.store_model.proofs.LeftToDo.{next_of}
 use Rattle.store_model.proofs.Moved.{stands_same}
-use Rattle.store_model.proofs.Over.{Effect, ImageLaw, known_of, moves, nothing, Over, TurnLaw}
+use Rattle.store_model.proofs.Over.{Effect, ImageLaw, known_of, moves, no_less, nothing, Over, TurnLaw}
 use Rattle.store_model.proofs.Shows.{resolved_faultless, shown_same}
 use Rattle.store_model.proofs.StandsKept.{far_super, super_outside}
 use Rattle.store_model.proofs.SuperMarked.{elsewhere, mark_way, marked_image, marked_stands}
@@ -148,7 +148,10 @@ pub law : TurnLaw case.kind
 law = record {
   keeps = λ _ told known q t. keeps known told q t;
   effect = λ told p q t. subst (Effect p) (sym t.next)
-      (record { goes = moves t.running.runs refl t.moves.write_faults; logs = nothing refl refl });
+      (record {
+        goes = moves t.running.runs refl t.moves.write_faults (no_less t.moves.read_faults);
+        logs = nothing refl refl;
+      });
   images = λ d x t does. images d x t does;
   job = λ _ told known q t. job_law known Marks t.running t.running.job.written false t.device
       (passed known told q t) q t.next;

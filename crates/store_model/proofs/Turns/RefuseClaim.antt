@@ -1,9 +1,10 @@
 -- The turn refuses_claim.
-use Rattle.std.proofs.Common.{inl, inr, ap, refl, subst, sym}
+use Rattle.std.proofs.Common.{◌≡◌, inl, inr, ap, refl, subst, sym}
 use Rattle.volume_model.specs.Steps.{Allowed, IsRefusal}
 use Rattle.volume_model.specs.declared.command.Command.{Command}
 use Rattle.volume_model.specs.declared.command.Command.TheVariants as c
 use Rattle.volume_model.specs.declared.reply.Reply.{Reply}
+use Rattle.volume_model.specs.declared.reply.Reply.TheVariants as r
 use Rattle.store_model.specs.Shown.{fixed_of}
 use Rattle.store_model.specs.Rows.{entry_of, Idle, Row}
 use Rattle.store_model.specs.StoreState.{shown, StoreState}
@@ -18,13 +19,14 @@ use Rattle.store_model.proofs.Shapes.{idles, Idles, notes, untouched_images}
 use Rattle.store_model.proofs.Shaped.{idle_may}
 use Rattle.store_model.proofs.StateKept.{caused_so, is_allowed, is_refusal, logged_facts, not_in_job, refused_here}
 use Rattle.store_model.proofs.StateKept.{refused_same}
-use Rattle.store_model.proofs.Turns.Refuse.{refused_quiet}
+use Rattle.store_model.proofs.Turns.Refuse.{refused_quiet, refused_unread}
 
 -- what is known of the reply, whichever cause it has
 record IsRefusing (p : StoreState) (command : Command) (reply : Reply) : Type 0 where
   refuses : IsRefusal reply
   allowed : Allowed (fixed_of p.super) (shown p) command reply
   quiet : IsQuiet reply
+  unread : reply ≡ r.ReadFault → ⊥
 
 module _ (p q : StoreState) (t : RefusesClaim p q) where
   abbrev command : Command
@@ -38,9 +40,10 @@ module _ (p q : StoreState) (t : RefusesClaim p q) where
           refuses = is_refusal p command t.reply why;
           allowed = is_allowed p command t.reply why;
           quiet = refused_quiet p command t.reply why;
+          unread = refused_unread p command t.reply why;
         }
     | inr full ↦ subst (IsRefusing p command) (sym full.0)
-        (record { refuses = tt; allowed = (full.1, tt); quiet = tt })
+        (record { refuses = tt; allowed = (full.1, tt); quiet = tt; unread = λ bad. cc bad })
   ]
 
 -- ---- it keeps what every state has
@@ -64,7 +67,8 @@ law = record {
   effect = λ told p q t. subst (Effect p) (sym t.next)
       (record {
         goes = stays refl refl;
-        logs = answer (entry_of p.log t.write.channel (command p q t) t.reply) refl refl (refusing p q t).quiet t.runs;
+        logs = answer (entry_of p.log t.write.channel (command p q t) t.reply) refl refl (refusing p q t).quiet t.runs
+            (λ bad. absurd ((refusing p q t).unread bad));
       });
   images = λ d x t does. untouched_images d x does
       (subst (Idles x.p) (sym t.next) (idles x.p _ refl refl refl refl

@@ -15,7 +15,7 @@ use Rattle.store_model.proofs.Shapes.{idles, Idles, notes, untouched_images}
 use Rattle.store_model.proofs.Shaped.{idle_may}
 use Rattle.store_model.proofs.StateKept.{refused_here, caused_so, is_allowed, is_refusal, logged_facts, not_in_job}
 use Rattle.store_model.proofs.StateKept.{refused_same}
-use Rattle.store_model.proofs.Turns.Refuse.{refused_quiet}
+use Rattle.store_model.proofs.Turns.Refuse.{refused_quiet, refused_unread}
 
 module _ (p q : StoreState) (t : RefusesWrite p q) where
   abbrev command : Command
@@ -47,7 +47,8 @@ law = record {
       (record {
         goes = stays refl refl;
         logs = answer (entry_of p.log t.channel (command p q t) t.reply) refl refl
-            (refused_quiet p (command p q t) t.reply (why p q t)) t.runs;
+            (refused_quiet p (command p q t) t.reply (why p q t)) t.runs
+            (λ bad. absurd (refused_unread p (command p q t) t.reply (why p q t) bad));
       });
   images = λ d x t does. untouched_images d x does
       (subst (Idles x.p) (sym t.next) (idles x.p _ refl refl refl refl

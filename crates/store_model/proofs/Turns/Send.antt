@@ -10,7 +10,7 @@ use Rattle.store_model.specs.Cases.Send.{Sends}
 use Rattle.store_model.specs.RunInvariant.{RunInvariant}
 use Rattle.store_model.proofs.ClaimSets.{held_on}
 use Rattle.store_model.proofs.Known.{Known}
-use Rattle.store_model.proofs.Over.{Effect, moves, nothing, TurnLaw}
+use Rattle.store_model.proofs.Over.{Effect, moves, no_less, nothing, TurnLaw}
 use Rattle.store_model.proofs.Shapes.{flushed_images, now_same}
 use Rattle.store_model.proofs.Shaped.{holding_may}
 use Rattle.store_model.proofs.DeviceKept.{device_facts}
@@ -48,7 +48,10 @@ pub law : TurnLaw case.kind
 law = record {
   keeps = λ _ told known q t. keeps known q t;
   effect = λ told p q t. subst (Effect p) (sym t.next)
-      (record { goes = moves t.runs refl t.flushed.write_faults; logs = nothing refl refl });
+      (record {
+        goes = moves t.runs refl t.flushed.write_faults (no_less t.flushed.read_faults);
+        logs = nothing refl refl;
+      });
   images = λ d x t does.
       flushed_images d x (now_same d x (ap (λ (v : StoreState). v.device.reads) t.next ∙ t.flushed.reads))
       (ap (λ (v : StoreState). v.base) t.next) (ap (λ (v : StoreState). v.chains) t.next)

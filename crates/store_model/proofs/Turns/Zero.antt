@@ -33,7 +33,7 @@ use Rattle.store_model.proofs.JobKept.{held_low, lays_here, IsPassed}
 use Rattle.store_model.proofs.JobGoesOn.{job_law, job_moves_on}
 use Rattle.store_model.proofs.Known.{Known}
 use Rattle.store_model.proofs.LeftToDo.{next_of, no_place}
-use Rattle.store_model.proofs.Over.{Effect, ImageLaw, known_of, moves, nothing, Over, TurnLaw}
+use Rattle.store_model.proofs.Over.{Effect, ImageLaw, known_of, moves, no_less, nothing, Over, TurnLaw}
 use Rattle.store_model.proofs.StandsKept.{far_metadata}
 
 -- ---- what is read then
@@ -209,7 +209,10 @@ pub law : TurnLaw case.kind
 law = record {
   keeps = λ _ told known q t. keeps known told q t;
   effect = λ told p q t. subst (Effect p) (sym t.next)
-      (record { goes = moves t.running.runs refl t.moves.write_faults; logs = nothing refl refl });
+      (record {
+        goes = moves t.running.runs refl t.moves.write_faults (no_less t.moves.read_faults);
+        logs = nothing refl refl;
+      });
   images = λ d x t does. images d x t does;
   job = λ _ told known q t. job_law known (Zeros t.page) t.running t.running.job.written known.p.clean t.device
       (passed known told q t) q t.next;

@@ -1,5 +1,5 @@
 -- The turn more_breaks_off.
-use Rattle.std.specs.Prelude.{◌≡◌, None, false}
+use Rattle.std.specs.Prelude.{◌≡◌, None, Some, false}
 use Rattle.store_model.specs.Device.{Device}
 use Rattle.store_model.specs.Phases.{page_in, Replaces, Replacing}
 use Rattle.store_model.specs.StoreState.{StoreState, waiting}
@@ -13,7 +13,7 @@ pub record MoreBreaksOff (p q : StoreState) : Type 0 where
   pub running : Runs p (Replaces replacing None)
   pub waits : waiting running.job.serves running.job.todo ≡ None
   pub device : Device
-  pub fails : FailsToReplace p.device device
+  pub fails : FailsToReplace (Some (page_of_place p replacing.head)) p.device device
   pub next : q ≡ record (stopped_now p) { job = None; device = device }
 
 abbrev pub kind : TurnKind

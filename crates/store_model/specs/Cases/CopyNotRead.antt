@@ -1,6 +1,6 @@
 -- The turn copy_not_read.
-use Rattle.std.specs.Prelude.{◌≡◌, ℕ, suc, None, false}
-use Rattle.page_disk.specs.Disk.{Rose}
+use Rattle.std.specs.Prelude.{◌≡◌, ℕ, suc, ◌≤◌, None, false}
+use Rattle.page_disk.specs.Disk.{Rose, RoseByOne}
 use Rattle.volume_model.specs.declared.reply.Reply.TheVariants as r
 use Rattle.store_model.specs.Claiming.{IsCopying, LogsWork}
 use Rattle.store_model.specs.Copying.{IsUpToDate}
@@ -13,8 +13,10 @@ use Rattle.store_model.specs.Touches.{no_new, TurnKind}
 pub record IsNotRead (old new : Device) : Type 0 where
   pub reads : new.reads ≡ old.reads
   pub clock : new.clock ≡ old.clock
+  pub later : old.read_faults ≤ new.read_faults
   pub read_faults : Rose old.read_faults new.read_faults
   pub write_faults : new.write_faults ≡ old.write_faults
+  pub read_calls : RoseByOne old.read_calls new.read_calls
 
 -- The page that is to be copied can't be read: the command that the row works for is logged as that, and the claim
 -- given back.

@@ -1,5 +1,5 @@
 -- The turn more_fails.
-use Rattle.std.specs.Prelude.{◌≡◌, None, true, false}
+use Rattle.std.specs.Prelude.{◌≡◌, None, Some, true, false}
 use Rattle.volume_model.specs.declared.reply.Reply.TheVariants as r
 use Rattle.store_model.specs.Device.{Device}
 use Rattle.store_model.specs.Phases.{has_commit, page_in, Replaces, Replacing}
@@ -15,7 +15,7 @@ pub record MoreFails (p q : StoreState) : Type 0 where
   pub served : IsServedNow p running.job
   pub waits : has_commit running.job.todo ≡ true
   pub device : Device
-  pub fails : FailsToReplace p.device device
+  pub fails : FailsToReplace (Some (page_of_place p replacing.head)) p.device device
   pub next : q ≡ logged (record (stopped_now p) { job = None })
       served.channel served.command served.rest r.Fault device
 

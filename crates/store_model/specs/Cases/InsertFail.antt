@@ -10,7 +10,7 @@ use Rattle.store_model.specs.Phases.{Marks, page_in, Phase, Replaces, Replacing}
 use Rattle.store_model.specs.Recovers.{SaysInUse}
 use Rattle.store_model.specs.Rows.{Answered, Decided}
 use Rattle.store_model.specs.StoreState.{JobState, StoreState}
-use Rattle.store_model.specs.Touches.{puts, replaces, Touch, TurnKind}
+use Rattle.store_model.specs.Touches.{page_touched, puts, replaces, Touch, TurnKind}
 use Rattle.store_model.specs.Turning.{FailsToReplace, page_of_place, put_by, Runs, stopped_now}
 
 -- what was being written: the super block, to say that the store is in use; a page at a place that the job holds; or
@@ -21,6 +21,12 @@ pub data TriedInsert (s : Super) (j : JobState) (phase : Phase) : Type 0 where
   head : (replacing : Replacing) (new : Meta) → phase ≡ Replaces replacing None → replacing.new ≡ Some new
       → TriedInsert s j phase
 
+abbrev pub tried_insert : (p : StoreState) → {j : JobState} → {phase : Phase} → TriedInsert p.super j phase → Touch
+tried_insert p (mark content is says) = replaces 0 content false
+tried_insert p (page put is) = puts (page_of_place p put.place) put.page false
+tried_insert p (head replacing new is new_is) =
+    replaces (page_of_place p replacing.head) (page_in replacing.planned replacing.head) false
+
 -- A write or a flush of the job failed: the store stops, the command that the row works for is logged as failed, the
 -- claim is given back, if the cluster isn't in its slot yet, no job runs any more, and no blob is frozen.
 pub record InsertFails (p q : StoreState) : Type 0 where
@@ -29,14 +35,8 @@ pub record InsertFails (p q : StoreState) : Type 0 where
   pub inserting : IsInserting p running.job
   pub tried : TriedInsert p.super running.job phase
   pub device : Device
-  pub fails : FailsToReplace p.device device
+  pub fails : FailsToReplace (page_touched (tried_insert p tried)) p.device device
   pub logs : LogsWork (record (stopped_now p) { job = None }) inserting.row (Decided Answered) r.Fault device q
-
-abbrev pub tried_insert : (p : StoreState) → {j : JobState} → {phase : Phase} → TriedInsert p.super j phase → Touch
-tried_insert p (mark content is says) = replaces 0 content false
-tried_insert p (page put is) = puts (page_of_place p put.place) put.page false
-tried_insert p (head replacing new is new_is) =
-    replaces (page_of_place p replacing.head) (page_in replacing.planned replacing.head) false
 
 abbrev pub kind : TurnKind
 kind = record { Case = λ told p q. InsertFails p q; touch = λ told p q t. tried_insert p t.tried; OfJob = ⊥ }

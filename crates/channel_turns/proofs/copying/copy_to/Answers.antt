@@ -22,7 +22,7 @@ returns-then-is_err-clause-logged g c said =
     let old = view_of c.args.running.now in
     copy_not_read d old c.args.row c.args.from c.args.to c.args.left c.requires.copies c.requires.fill
     c.requires.order.seventeen c.read_at.new.disk
-    c.read_at.ensures.any_moment
+    c.read_at.ensures.any_moment c.read_at.ensures.pages
     (failed_so (device_of d old.disk) (device_of d c.read_at.new.disk) c.read_at.result
     (sym c.is_err.ensures.value ∙ c.if-is_err.true) c.read_at.ensures.seen)
     (view_of c.give_up.new.running) c.give_up.ensures.logged
@@ -35,9 +35,10 @@ returns-clause-copied g c count said =
     let done = sym c.is_err.ensures.value ∙ c.if-is_err.false in
     let wrote = sym c.is_err-2.ensures.value ∙ c.if-is_err-2.false in
     copy_made d old c.args.row c.args.from c.args.to c.args.left c.requires.copies c.requires.fill
-    c.requires.order.seventeen (λ tells. g.met.D.PageDisk.telling tells) c.read_at.new.disk c.read_at.ensures.any_moment
+    c.requires.order.seventeen (λ tells. g.met.D.PageDisk.telling tells) c.read_at.new.disk
+    c.read_at.ensures.any_moment c.read_at.ensures.pages
     (read_so (device_of d old.disk) (device_of d c.read_at.new.disk) c.read_at.result done c.read_at.ensures.seen r.Ok
-    (λ e. cc e)) c.read_at.new.into c.write_one.new.disk c.write_one.ensures.any_moment
+    (λ e. cc e)) c.read_at.new.into c.write_one.new.disk c.write_one.ensures.any_moment c.write_one.ensures.pages
     (λ tells. on_ok c.read_at.result _ done (c.read_at.ensures.content tells))
     (on_ok c.write_one.result _ wrote c.write_one.ensures.moves) c.go_to.new.self
     (c.go_to.ensures ∙ ap (λ (x : Row). record x { stage = stage_seen c.stage_with.result })
@@ -53,9 +54,9 @@ returns-then-is_err-2-clause-logged g c said =
     let failed = sym c.is_err-2.ensures.value ∙ c.if-is_err-2.true in
     copy_failed d old c.args.row c.args.from c.args.to c.args.left c.requires.copies c.requires.fill
     c.requires.order.seventeen (λ tells. g.met.D.PageDisk.telling tells) c.read_at.new.disk
-    c.read_at.ensures.any_moment
+    c.read_at.ensures.any_moment c.read_at.ensures.pages
     (read_so (device_of d old.disk) (device_of d c.read_at.new.disk) c.read_at.result done c.read_at.ensures.seen r.Ok
-    (λ e. cc e)) c.read_at.new.into c.write_one.new.disk c.write_one.ensures.any_moment
+    (λ e. cc e)) c.read_at.new.into c.write_one.new.disk c.write_one.ensures.any_moment c.write_one.ensures.pages
     (thawed d old c.requires.running.facts.guarded)
     (on_err c.write_one.result _ failed c.write_one.ensures.fails) q
     (subst (λ (v : StoreView g.row.D.Denot). IsGivenUp v q c.args.row Idle r.Fault (d.clock q.disk))

@@ -17,7 +17,7 @@ returns-then-is_err-clause-case g c =
     let low : c.args.channel < length c.args.running.now.rows.items =
     omega (arith, c.requires.channel, c.requires.order.seventeen) in
     flush_failed d old c.args.channel low c.requires.runs c.requires.waits c.flush_once.new.disk
-    c.flush_once.ensures.any_moment q
+    c.flush_once.ensures.any_moment c.flush_once.ensures.pages q
     (thawed d old c.requires.running.facts.guarded)
     (on_err c.flush_once.result _ (sym c.is_err.ensures.value ∙ c.if-is_err.true) c.flush_once.ensures.fails)
     (subst (λ (v : StoreView g.row.D.Denot). IsLogged Idle d v c.args.channel r.Fault q) c.stop_here.ensures.stopped
@@ -32,6 +32,7 @@ returns-else-is_err-clause-case g c =
     omega (arith, c.requires.channel, c.requires.order.seventeen) in
     let done = sym c.is_err.ensures.value ∙ c.if-is_err.false in
     flush_made d old c.args.channel low c.requires.runs c.requires.waits c.flush_once.new.disk
-    c.flush_once.ensures.any_moment q (on_ok c.flush_once.result _ done c.flush_once.ensures.flushed)
+    c.flush_once.ensures.any_moment c.flush_once.ensures.pages q
+    (on_ok c.flush_once.result _ done c.flush_once.ensures.flushed)
     (λ tells. on_ok c.flush_once.result _ done (c.flush_once.ensures.durable tells))
     c.log_here-else-is_err.ensures.logged

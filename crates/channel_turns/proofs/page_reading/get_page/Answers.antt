@@ -15,7 +15,8 @@ returns-then-is_err-clause-case g c =
     let disk = c.read_at.new.disk in
     let low : c.args.channel < length c.args.running.now.rows.items =
     omega (arith, c.requires.channel, c.requires.order.seventeen) in
-    read_failed d old c.args.channel c.args.place c.requires.reads low disk c.read_at.ensures.any_moment
+    read_failed d old c.args.channel c.args.place c.requires.reads low disk
+    c.read_at.ensures.any_moment c.read_at.ensures.pages
     (view_of c.log_here.new.running)
     (failed_so (device_of d old.disk) (device_of d disk) c.read_at.result
     (sym c.is_err.ensures.value ∙ c.if-is_err.true) c.read_at.ensures.seen)
@@ -30,7 +31,8 @@ returns-else-is_err-clause-case g c =
     omega (arith, c.requires.channel, c.requires.order.seventeen) in
     let done = sym c.is_err.ensures.value ∙ c.if-is_err.false in
     let x = c.log_content.ensures.logged in
-    read_made d old c.args.channel c.args.place c.requires.reads low disk c.read_at.ensures.any_moment
+    read_made d old c.args.channel c.args.place c.requires.reads low disk
+    c.read_at.ensures.any_moment c.read_at.ensures.pages
     (view_of c.log_content.new.running) c.read_at.new.into
     (λ tells. on_ok c.read_at.result _ done (c.read_at.ensures.content tells))
     (read_so (device_of d old.disk) (device_of d disk) c.read_at.result done c.read_at.ensures.seen)

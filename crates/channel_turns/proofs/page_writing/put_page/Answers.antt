@@ -17,7 +17,7 @@ returns-then-is_err-clause-case g c =
     let low : c.args.channel < length c.args.running.now.rows.items =
     omega (arith, c.requires.channel, c.requires.order.seventeen) in
     write_failed d old c.args.channel c.args.place c.args.content.now c.requires.writes low c.write_one.new.disk
-    c.write_one.ensures.any_moment q
+    c.write_one.ensures.any_moment c.write_one.ensures.pages q
     (thawed d old c.requires.running.facts.guarded)
     (on_err c.write_one.result _ (sym c.is_err.ensures.value ∙ c.if-is_err.true) c.write_one.ensures.fails)
     (subst (λ (v : StoreView g.row.D.Denot). IsLogged Idle d v c.args.channel r.Fault q) c.stop_here.ensures.stopped
@@ -32,5 +32,6 @@ returns-else-is_err-clause-case g c =
     omega (arith, c.requires.channel, c.requires.order.seventeen) in
     let done = sym c.is_err.ensures.value ∙ c.if-is_err.false in
     written_made d old c.args.channel c.args.place c.args.content.now c.requires.writes low c.write_one.new.disk
-    c.write_one.ensures.any_moment q (on_ok c.write_one.result _ done c.write_one.ensures.moves)
+    c.write_one.ensures.any_moment c.write_one.ensures.pages q
+    (on_ok c.write_one.result _ done c.write_one.ensures.moves)
     c.log_here-else-is_err.ensures.logged

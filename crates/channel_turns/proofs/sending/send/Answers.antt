@@ -16,7 +16,7 @@ returns-then-is_err-clause-logged g c said =
     let old = view_of c.args.running.now in
     let q = view_of c.give_up.new.running in
     send_failed d old c.args.row c.requires.order.seventeen c.requires.fill c.requires.runs c.requires.holds
-    c.flush_once.new.disk c.flush_once.ensures.any_moment q
+    c.flush_once.new.disk c.flush_once.ensures.any_moment c.flush_once.ensures.pages q
     (thawed d old c.requires.running.facts.guarded)
     (on_err c.flush_once.result _ (sym c.is_err.ensures.value ∙ c.if-is_err.true) c.flush_once.ensures.fails)
     (subst (λ (v : StoreView g.row.D.Denot). IsGivenUp v q c.args.row Idle r.Fault (d.clock q.disk))
@@ -28,7 +28,7 @@ returns-clause-sent g c msg said =
     let old = view_of c.args.running.now in
     let done = sym c.is_err.ensures.value ∙ c.if-is_err.false in
     sent d old c.args.row c.requires.order.seventeen c.requires.fill c.requires.runs c.requires.holds
-    c.flush_once.new.disk c.flush_once.ensures.any_moment (view_of c.post_row.new.running)
+    c.flush_once.new.disk c.flush_once.ensures.any_moment c.flush_once.ensures.pages (view_of c.post_row.new.running)
     (on_ok c.flush_once.result _ done c.flush_once.ensures.flushed)
     (λ tells. on_ok c.flush_once.result _ done (c.flush_once.ensures.durable tells)) c.post_row.ensures.posted
 

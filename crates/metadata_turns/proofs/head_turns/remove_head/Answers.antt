@@ -14,7 +14,7 @@ use Rattle.running_store.proofs.PlainFacts.{on_err, on_ok, zeros}
 use Rattle.running_store.proofs.Without.{heads_gone}
 use Rattle.metadata_turns.specs.Telling.{job_gone_on}
 use Rattle.metadata_turns.proofs.Behind.{left_seen}
-use Rattle.metadata_turns.proofs.AtHead.{moves_head, row_told, touches_head}
+use Rattle.metadata_turns.proofs.AtHead.{fails_head, moves_head, row_told, touches_head}
 use Rattle.metadata_turns.proofs.HeadFailed.{head_failed}
 use Rattle.metadata_turns.proofs.HeadMade.{head_made}
 use Rattle.metadata_turns.proofs.HeadReplaced.{comes_alone, kept_left}
@@ -46,12 +46,13 @@ returns-then-is_err-clause-case g c =
     let more = phases_in c.args.beside.later.items in
     let serves = c.args.beside.serves in
     let job = removing_for serves c.args.erasure old more in
+    let blank = zeros ∙ sym (zeros_planned d p serves c.args.erasure old more c.requires.at_work) in
     head_failed d p (change.Erases c.args.erasure) old more job disk
-    (touches_head d p (erasure_of c.args.erasure old) disk c.page_at-page.ensures
-    (zeros ∙ sym (zeros_planned d p serves c.args.erasure old more c.requires.at_work)) c.replace.ensures.any_moment)
-    serves (at_head d p serves c.args.erasure old more c.requires.at_work c.requires.removed)
+    (touches_head d p (erasure_of c.args.erasure old) disk c.page_at-page.ensures blank c.replace.ensures.any_moment
+    c.replace.ensures.pages) serves (at_head d p serves c.args.erasure old more c.requires.at_work c.requires.removed)
     c.requires.order.seventeen
-    (on_err c.replace.result _ (sym c.is_err.ensures.value ∙ c.if-is_err.true) c.replace.ensures.fails)
+    (fails_head d p (erasure_of c.args.erasure old) disk c.page_at-page.ensures blank
+    (on_err c.replace.result _ (sym c.is_err.ensures.value ∙ c.if-is_err.true) c.replace.ensures.fails))
     (view_of c.fail_job.new.running)
     c.requires.waits c.fail_job.ensures.failed
 
@@ -125,7 +126,8 @@ returns-clause-case g c =
     let w = c.requires.at_work in
     let blank = zeros ∙ sym (zeros_planned d p serves e old more w) in
     head_made d p (change.Erases e) old more (removing_for serves e old more) disk
-    (touches_head d p (erasure_of e old) disk c.page_at-page.ensures blank c.replace.ensures.any_moment)
+    (touches_head d p (erasure_of e old) disk c.page_at-page.ensures blank c.replace.ensures.any_moment
+    c.replace.ensures.pages)
     c.requires.kept.0 (unfrozen d p serves e old more w c.requires.removed) (view_of c.tell.new.running) serves
     (at_head d p serves e old more w c.requires.removed) (record {
       left = _;

@@ -20,7 +20,7 @@ use Rattle.running_store.proofs.PlainFacts.{got, on_err, on_ok}
 use Rattle.metadata_turns.specs.JobTurns.{IsAtWork}
 use Rattle.metadata_turns.specs.Telling.{job_gone_on}
 use Rattle.metadata_turns.proofs.Behind.{left_seen}
-use Rattle.metadata_turns.proofs.AtHead.{moves_head, row_told, touches_head}
+use Rattle.metadata_turns.proofs.AtHead.{fails_head, moves_head, row_told, touches_head}
 use Rattle.metadata_turns.proofs.HeadFailed.{head_failed}
 use Rattle.metadata_turns.proofs.HeadMade.{head_made}
 use Rattle.metadata_turns.proofs.HeadReplaced.{at_head, base_there, comes_alone, freed_in_use, head_below, kept_left}
@@ -72,14 +72,14 @@ returns-then-is_err-clause-case g c =
     let old = c.args.beside.old in
     let more = phases_in c.args.beside.later.items in
     let job = now c.args.beside.serves c.args.planned old more in
+    let page = first_planned d p c.args.beside.serves c.args.planned old more c.requires.at_work c.as_slice.ensures in
     head_failed d p (change.Writes c.args.planned) old more job disk
-    (touches_head d p (replacing_of c.args.planned old) disk c.page_at-page.ensures
-    (first_planned d p c.args.beside.serves c.args.planned old more c.requires.at_work c.as_slice.ensures)
-    c.replace.ensures.any_moment)
-    c.args.beside.serves
+    (touches_head d p (replacing_of c.args.planned old) disk c.page_at-page.ensures page c.replace.ensures.any_moment
+    c.replace.ensures.pages) c.args.beside.serves
     (at_head d p c.args.beside.serves c.args.planned old more c.requires.at_work c.requires.matched)
     c.requires.order.seventeen
-    (on_err c.replace.result _ (sym c.is_err.ensures.value ∙ c.if-is_err.true) c.replace.ensures.fails)
+    (fails_head d p (replacing_of c.args.planned old) disk c.page_at-page.ensures page
+    (on_err c.replace.result _ (sym c.is_err.ensures.value ∙ c.if-is_err.true) c.replace.ensures.fails))
     (view_of c.fail_job.new.running)
     c.requires.waits c.fail_job.ensures.failed
 
@@ -150,7 +150,8 @@ returns-clause-case g c =
     let serves = c.args.beside.serves in
     let page = first_planned d p serves c.args.planned old more c.requires.at_work c.as_slice.ensures in
     head_made d p (change.Writes c.args.planned) old more (now serves c.args.planned old more) disk
-    (touches_head d p (replacing_of c.args.planned old) disk c.page_at-page.ensures page c.replace.ensures.any_moment)
+    (touches_head d p (replacing_of c.args.planned old) disk c.page_at-page.ensures page c.replace.ensures.any_moment
+    c.replace.ensures.pages)
     c.requires.kept.0
     (matched serves c.args.planned c.requires.matched).headed (view_of c.tell.new.running) serves
     (at_head d p serves c.args.planned old more c.requires.at_work c.requires.matched) (record {

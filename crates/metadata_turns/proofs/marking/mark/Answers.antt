@@ -23,7 +23,6 @@ returns-then-is_err-clause-case g c =
     let p = view_of c.args.running.now in
     failed_marking g.D.PageDisk p (job_seen c.args.job) c.requires.at_work c.requires.order.seventeen
     c.mark_in_use.new.disk
-    (on_err c.mark_in_use.result _ (sym c.is_err.ensures.value ∙ c.if-is_err.true) c.mark_in_use.ensures.fails)
     (view_of c.fail_job.new.running)
     c.requires.waits (subst (λ o. HasFailed o c.args.waiting
     (view_of (record c.args.running.now { disk = c.mark_in_use.new.disk })) (view_of c.fail_job.new.running)
@@ -34,6 +33,8 @@ returns-then-is_err-clause-case g c =
     c.fail_job.ensures.failed))
     (behind_mark c.args.job).todo (mark_first c.args.job c.requires.marks)
     (mark_page c.args.running.now.sup) c.mark_in_use.ensures.says c.mark_in_use.ensures.any_moment
+    c.mark_in_use.ensures.pages
+    (on_err c.mark_in_use.result _ (sym c.is_err.ensures.value ∙ c.if-is_err.true) c.mark_in_use.ensures.fails)
 
 pub returns-clause-case : goal.returns-clause-case
 returns-clause-case g c =
@@ -51,7 +52,7 @@ returns-clause-case g c =
     })) (sym c.with_mark.ensures)
     (marked_store g.D.PageDisk p c.args.job c.requires.at_work c.requires.marks c.mark_in_use.new.disk
     (mark_page c.args.running.now.sup) c.mark_in_use.ensures.says c.mark_in_use.ensures.any_moment
-    (λ told. on_ok c.mark_in_use.result _ (sym c.is_err.ensures.value ∙ c.if-is_err.false)
+    c.mark_in_use.ensures.pages (λ told. on_ok c.mark_in_use.result _ (sym c.is_err.ensures.value ∙ c.if-is_err.false)
     (c.mark_in_use.ensures.durable told))
     (on_ok c.mark_in_use.result _ (sym c.is_err.ensures.value ∙ c.if-is_err.false) c.mark_in_use.ensures.moves)))
 

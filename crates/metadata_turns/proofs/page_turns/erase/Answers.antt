@@ -27,7 +27,7 @@ returns-then-is_err-clause-case g c =
     erase_failed g.D.PageDisk (view_of c.args.running.now) c.args.beside.serves c.args.beside.old c.args.erased
     (phases_in c.args.beside.later.items) c.requires.at_work (omega (arith, c.requires.left)) c.as_slice.ensures
     c.page_at-page.result c.page_at-page.ensures c.write_one.new.disk zeros
-    c.write_one.ensures.any_moment c.requires.order.seventeen
+    c.write_one.ensures.any_moment c.write_one.ensures.pages c.requires.order.seventeen
     (on_err c.write_one.result _ (sym c.is_err.ensures.value ∙ c.if-is_err.true) c.write_one.ensures.fails)
     (view_of c.fail_job.new.running) c.requires.waits c.fail_job.ensures.failed
 
@@ -48,5 +48,5 @@ returns-clause-case g c =
     (erased_one g.D.PageDisk (view_of c.args.running.now) c.args.beside.serves c.args.beside.old c.args.erased
     (phases_in c.args.beside.later.items) c.requires.at_work (omega (arith, c.requires.left)) c.as_slice.ensures
     c.page_at-page.result c.page_at-page.ensures c.write_one.new.disk zeros
-    c.write_one.ensures.any_moment c.requires.left
+    c.write_one.ensures.any_moment c.write_one.ensures.pages c.requires.left
     (on_ok c.write_one.result _ (sym c.is_err.ensures.value ∙ c.if-is_err.false) c.write_one.ensures.moves))

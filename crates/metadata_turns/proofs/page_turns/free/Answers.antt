@@ -32,7 +32,7 @@ returns-then-is_err-clause-case g c =
     erase_failed g.D.PageDisk (view_of c.args.running.now) c.args.beside.serves c.args.beside.old c.args.erased
     (phases_in c.args.beside.later.items) c.requires.at_work (omega (arith, c.requires.last)) c.as_slice.ensures
     c.page_at-page.result c.page_at-page.ensures c.write_last.new.disk zeros
-    c.write_last.ensures.any_moment c.requires.order.seventeen
+    c.write_last.ensures.any_moment c.write_last.ensures.pages c.requires.order.seventeen
     (on_err c.write_last.result _ (sym c.is_err.ensures.value ∙ c.if-is_err.true) c.write_last.ensures.fails)
     (view_of c.fail_job.new.running) c.requires.waits c.fail_job.ensures.failed
 
@@ -57,7 +57,8 @@ returns-clause-case g c =
     freed_all g.D.PageDisk (view_of c.args.running.now) c.args.beside.serves c.args.beside.old c.args.erased
     (phases_in c.args.beside.later.items) c.requires.at_work (omega (arith, c.requires.last)) c.as_slice.ensures
     c.page_at-page.result c.page_at-page.ensures c.write_last.new.disk zeros
-    c.write_last.ensures.any_moment c.requires.last (on_ok c.write_last.result _ done c.write_last.ensures.moves)
+    c.write_last.ensures.any_moment c.write_last.ensures.pages c.requires.last
+    (on_ok c.write_last.result _ done c.write_last.ensures.moves)
     (λ tells. on_ok c.write_last.result _ done (c.write_last.ensures.durable tells)) c.clear_places.new.pool.bits
     c.clear_places.ensures.bits _ c.next.ensures.seen
     (comes_alone c.args.beside.serves c.args.beside.later.items c.requires.follows) (view_of c.win.new.running)

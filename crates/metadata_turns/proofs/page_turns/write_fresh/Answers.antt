@@ -26,8 +26,8 @@ pub returns-then-is_err-clause-case : goal.returns-then-is_err-clause-case
 returns-then-is_err-clause-case g c =
     fresh_failed g.D.PageDisk (view_of c.args.running.now) c.args.beside.serves c.args.planned c.args.beside.old
     c.args.written (phases_in c.args.beside.later.items) c.requires.at_work c.as_slice.ensures c.requires.left
-    c.page_at-page.result c.page_at-page.ensures c.write_one.new.disk c.write_one.ensures.any_moment
-    c.requires.order.seventeen
+    c.page_at-page.result c.page_at-page.ensures c.write_one.new.disk
+    c.write_one.ensures.any_moment c.write_one.ensures.pages c.requires.order.seventeen
     (on_err c.write_one.result _ (sym c.is_err.ensures.value ∙ c.if-is_err.true) c.write_one.ensures.fails)
     (view_of c.fail_job.new.running) c.requires.waits c.fail_job.ensures.failed
 
@@ -48,5 +48,5 @@ returns-clause-case g c =
     }} (sym c.at.ensures)
     (wrote_fresh d p c.args.beside.serves c.args.planned c.args.beside.old c.args.written
     (phases_in c.args.beside.later.items) c.requires.at_work c.as_slice.ensures c.requires.left c.page_at-page.result
-    c.page_at-page.ensures c.write_one.new.disk c.write_one.ensures.any_moment
+    c.page_at-page.ensures c.write_one.new.disk c.write_one.ensures.any_moment c.write_one.ensures.pages
     (on_ok c.write_one.result _ (sym c.is_err.ensures.value ∙ c.if-is_err.false) c.write_one.ensures.moves))

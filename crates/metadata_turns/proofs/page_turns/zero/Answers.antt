@@ -27,7 +27,7 @@ returns-then-is_err-clause-case g c =
     failed_zeroing g.D.PageDisk (view_of c.args.running.now) c.args.beside.serves c.args.planned
     c.args.beside.old c.args.zeroed (phases_in c.args.beside.later.items) c.requires.at_work c.requires.zeroed
     c.write_one.new.disk
-    c.next_page-page.result c.next_page-page.ensures zeros c.write_one.ensures.any_moment
+    c.next_page-page.result c.next_page-page.ensures zeros c.write_one.ensures.any_moment c.write_one.ensures.pages
     (on_err c.write_one.result _ (sym c.is_err.ensures.value ∙ c.if-is_err.true) c.write_one.ensures.fails)
     (view_of c.fail_job.new.running)
     c.requires.waits c.fail_job.ensures.failed
@@ -37,7 +37,7 @@ returns-clause-case g c =
     zeroed_one g.D.PageDisk (view_of c.args.running.now) c.args.beside.serves c.args.planned
     c.args.beside.old c.args.zeroed (phases_in c.args.beside.later.items) c.requires.at_work c.requires.zeroed
     c.write_one.new.disk
-    c.next_page-page.result c.next_page-page.ensures zeros c.write_one.ensures.any_moment
+    c.next_page-page.result c.next_page-page.ensures zeros c.write_one.ensures.any_moment c.write_one.ensures.pages
     (on_ok c.write_one.result _ (sym c.is_err.ensures.value ∙ c.if-is_err.false) c.write_one.ensures.moves)
     _ c.behind_zeros.ensures.seen
 

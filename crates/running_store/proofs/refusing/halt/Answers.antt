@@ -1,7 +1,9 @@
-use Rattle.std.proofs.Common.{◌<◌, length, None, ap, arith}
+use Rattle.std.proofs.Common.{◌≡◌, ◌∙◌, ◌<◌, ℕ, length, None, ap, arith, sym}
 use Rattle.volume_model.specs.declared.reply.Reply.TheVariants.{Stopped}
 use Rattle.store_model.specs.Rows.{Posted, Row}
 use Rattle.running_store.specs.Running.{view_of}
+use Rattle.running_store.specs.Steps.{log_with}
+use Rattle.running_store.specs.StoreView.{StoreView}
 use Rattle.running_store.proofs.Entered.{disk_same, entered}
 use Rattle.running_store.proofs.refusing.halt.Goals as goal
 
@@ -30,3 +32,9 @@ returns-clause-case g c =
       },
       disk_same d old (view_of c.log.new.running) c.args.channel waits.command waits.rest (Stopped c.in-Some.at) low is,
     )
+
+pub returns-clause-told : goal.returns-clause-told
+returns-clause-told g c = λ at stands command rest left.
+    let same : c.in-Some.at ≡ at = let both = sym c.in-Some.is ∙ stands in cc both in
+    ap (λ (a : StoreView g.row.D.Denot). a.log) (c.log.ensures.logged command rest left)
+    ∙ ap (λ (n : ℕ). log_with (view_of c.args.running.now).log c.args.channel command (Stopped n)) same

@@ -2,7 +2,7 @@ use Rattle.std.proofs.Common.{◌<◌, length, ap, arith}
 use Rattle.store_model.specs.Rows.{Row}
 use Rattle.store_model.proofs.StateKept.{at_begin_too}
 use Rattle.running_store.specs.Running.{view_of}
-use Rattle.running_store.specs.StoreView.{state_of}
+use Rattle.running_store.specs.StoreView.{state_of, StoreView}
 use Rattle.running_store.proofs.Entered.{disk_same, entered}
 use Rattle.running_store.proofs.refusing.refuse.Goals as goal
 
@@ -31,3 +31,7 @@ returns-clause-case g c =
       },
       disk_same d old (view_of c.log.new.running) c.args.channel waits.command waits.rest c.args.reply low is,
     )
+
+pub returns-clause-told : goal.returns-clause-told
+returns-clause-told g c = λ command rest left.
+    ap (λ (a : StoreView g.row.D.Denot). a.log) (c.log.ensures.logged command rest left)

@@ -1,3 +1,4 @@
+use Rattle.store_model.proofs.CountedReads.{run_reads}
 use Rattle.store_model.proofs.StateStops.{run_counts, run_faults, run_quiet, run_uncounted}
 use Rattle.store_model.proofs.laws.state_stops.Goals as goal
 
@@ -7,4 +8,5 @@ returns c = record {
   uncounted = run_uncounted;
   quiet = run_quiet;
   fault = run_faults;
+  read = run_reads;
 }

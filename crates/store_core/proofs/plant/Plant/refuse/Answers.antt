@@ -1,6 +1,7 @@
 use Rattle.std.proofs.Common.{◌≡◌, None, subst}
 use Rattle.store_model.specs.Cases as kind
 use Rattle.running_store.specs.Running.{view_of, with_opening}
+use Rattle.running_store.specs.Steps.{Asks, log_with, refused_with}
 use Rattle.running_store.specs.StoreView.{WithOpening}
 use Rattle.running_store.specs.TurnMade.{TurnMade}
 use Rattle.store_core.proofs.Posting.{either, posted_at, posted_low}
@@ -32,3 +33,9 @@ pub returns-clause-refused : goal.returns-clause-refused
 returns-clause-refused g c = subst (λ (b : WithOpening g.row.D.Denot). b.at.stopped ≡ None
     → TurnMade g.D.PageDisk b.at (view_of c.refuse_or_halt.new.running) kind.refuses) c.self.view_is
     c.refuse_or_halt.ensures.refused
+
+pub returns-clause-told : goal.returns-clause-told
+returns-clause-told g c = subst (λ (b : WithOpening g.row.D.Denot). Asks b.at c.args.msg.channel (λ command.
+    (view_of c.refuse_or_halt.new.running).log
+    ≡ log_with b.at.log c.args.msg.channel command (refused_with b.at.stopped c.args.reply))) c.self.view_is
+    c.refuse_or_halt.ensures.told
