@@ -141,6 +141,41 @@ fn a_page_that_was_not_read_is_read_by_the_next_command(rt: HostRuntime) -> Resu
     Ok(())
 }
 
+/// A listing of the store.
+static LIST: Call<'static> = Call {
+    line: "list store.img",
+    script: b"",
+    failing_reads: &[],
+    failing_writes: &[],
+};
+
+/// Expects that a call on a clean store ends where this read of the device fails, that it prints nothing, and that it
+/// neither writes nor flushes.
+fn expect_unread(alloc: Global, call: &Call<'_>, nth: u64) -> Result<(), TestFail> {
+    let disk = failing(alloc, new_store(alloc)?, CallKind::Read, nth)?;
+    let disk = expect_end(alloc, call, ("Device { at: 0 }", b""), disk)?;
+    for kind in [CallKind::Write, CallKind::Flush] {
+        let calls = disk.calls(kind);
+        if calls > 0 {
+            return Err(TestFail::new(format_args!("{calls} calls of {kind:?}")));
+        }
+    }
+    Ok(())
+}
+
+/// Reads of the load of a clean store behind that of its super block: of the three masks.
+const MASK_READS: [u64; 3] = [2, 3, 4];
+
+/// The store isn't scanned in place of a mask that the device doesn't give.
+#[test]
+fn nothing_is_done_where_a_mask_is_not_read(rt: HostRuntime) -> Result<(), TestFail> {
+    for nth in MASK_READS {
+        expect_unread(rt.alloc(), &DF, nth)?;
+        expect_unread(rt.alloc(), &LIST, nth)?;
+    }
+    Ok(())
+}
+
 /// Reads of a load: of the super block, of the first metadata page and of the last one.
 const READS: [u64; 3] = [1, 2, 17];
 

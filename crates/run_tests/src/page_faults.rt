@@ -106,14 +106,9 @@ fn a_failed_write_or_flush_stops_the_store(rt: HostRuntime) -> Result<(), TestFa
     Ok(())
 }
 
-/// A read of the device that fails, by its number, and what is printed of a script. Loading reads the super block, a
-/// page of each mask, and a chain of one page. Where a mask can't be read the store is scanned.
-static FAILED_READS: [(u64, &[u8]); 4] = [
-    (
-        3,
-        b"0 0 ok\n0 1 ok\n0 2 page fill 0000000000000007\n0 3 page fill 0000000000000008\n0 4 ok\n\
-            0 5 page fill 0000000000000009\n0 6 ok\n",
-    ),
+/// A read of the device that fails behind the load, by its number, and what is printed of a script. Loading reads the
+/// super block, a page of each mask, and a chain of one page.
+static FAILED_READS: [(u64, &[u8]); 3] = [
     (
         6,
         b"0 0 ok\n0 1 ok\n0 2 read fault\n0 3 page fill 0000000000000008\n0 4 ok\n\

@@ -1,10 +1,9 @@
 -- The heads by which blobs were found, and the fault where they weren't.
-use Rattle.std.proofs.Common.{◌≡◌, ℕ, ◌≤◌, ◌⊎◌, Bool, true, false, [], refl, sym, subst, inl, inr, arith}
-use Rattle.std.proofs.lemmas.Bool.{cases_eq, cases_lt}
+use Rattle.std.proofs.Common.{◌≡◌, ℕ, true, false, [], refl, subst, inr}
 use Rattle.clean_stop.specs.Masks.{MasksFit, SaysMasks}
 use Rattle.md_chain.specs.Chain.{Look}
 use Rattle.md_chain.specs.Reading.{region_look}
-use Rattle.page_disk.specs.Disk.{Image, Rose, last_count}
+use Rattle.page_disk.specs.Disk.{Image}
 use Rattle.page_disk.specs.declared.disk.PageDisk.{Ghosts}
 use Rattle.store_model.specs.Maps.{Metas, Chains}
 use Rattle.store_model.specs.Places.{Unclaimed, UsedClusters, UsedPages}
@@ -15,31 +14,20 @@ use Rattle.unclean_load.specs.declared.fault.LoadFault.{LoadFault}
 use Rattle.unclean_load.specs.declared.fault.LoadFault.TheVariants as fault
 use Rattle.unclean_load.specs.declared.heads.Heads.{Heads}
 use Rattle.unclean_load.specs.declared.heads.Heads.TheVariants.{ByScan, Listed}
+use Rattle.unclean_load.specs.Accepted.{IsImageFault}
 use Rattle.unclean_load.specs.Claiming.{IsInTwo, IsPageFault}
 use Rattle.unclean_load.specs.Heads.{AreWhole, IsHeadsFault, ShowsFirst}
-use Rattle.unclean_load.specs.Quick.{AreHeads, AreUsed, IsFaultFound, IsQuick, IsReadBy, ShowsBy}
-use Rattle.unclean_load.specs.Reading.{IsFaultCounted, IsOnlyFault}
+use Rattle.unclean_load.specs.Quick.{AreHeads, IsFaultFound, IsQuick, IsReadBy}
+use Rattle.unclean_load.specs.Reading.{IsOnlyFault}
 use Rattle.unclean_load.proofs.LoadOutcome.{not_twice}
 use Rattle.unclean_load.proofs.MaskClaims.{is_trusted, not_trusted}
 use Rattle.unclean_load.proofs.Refusing.{none_shown}
 
 -- ---- counts of read faults
 
--- a fault that was counted since, where none was before
-pub counted_since : (old mid new : ℕ) (why : LoadFault) → old ≤ mid → IsOnlyFault mid new why
-    → IsFaultCounted old new why
-counted_since old mid new fault.ReadFault le (inl x) = inl (omega (arith, le, x))
-counted_since old mid new fault.ReadFault le (inr x) = inr x
-counted_since old mid new (fault.NoRoom head has wants) le x = x
-counted_since old mid new fault.Memory le x = tt
-counted_since old mid new (fault.Super e) le x = tt
-counted_since old mid new (fault.Chain head e) le x = tt
-counted_since old mid new (fault.Meta head e) le x = tt
-counted_since old mid new (fault.MapsTooLarge slots) le x = tt
-counted_since old mid new (fault.NoParentBlob blob parent) le x = tt
-counted_since old mid new (fault.WritableParent blob parent) le x = tt
-counted_since old mid new (fault.ParentLoop blob) le x = tt
-counted_since old mid new (fault.Shared cluster a b) le x = tt
+-- where no read had failed before, a fault is counted as from the beginning
+pub counted_behind : (old mid new : ℕ) (why : LoadFault) → mid ≡ old → IsOnlyFault mid new why → IsOnlyFault old new why
+counted_behind old mid new why quiet x = subst (λ (n : ℕ). IsOnlyFault n new why) quiet x
 
 -- chains with a place in common, or want of memory, are found with no read
 pub pages_uncounted : (twice : ℕ → ℕ → Type 0) (old new : ℕ) (why : LoadFault) → new ≡ old → IsPageFault twice why
@@ -56,19 +44,19 @@ pages_uncounted twice old new (fault.WritableParent blob parent) same x = same
 pages_uncounted twice old new (fault.ParentLoop blob) same x = same
 pages_uncounted twice old new (fault.Shared cluster a b) same x = same
 
--- a count has risen, or it hasn't
-rose_or_not : (old new : ℕ) → Rose old new ⊎ (Rose old new → ⊥)
-rose_or_not old new = elim (cases_lt old new) [
-  | inl lt ↦ inl (inl lt)
-  | inr le ↦ elim (cases_eq new last_count) [
-    | inl e ↦ inl (inr e)
-    | inr ne ↦ inr (λ x. by x le ne)
-  ]
-]
-  where
-    by : Rose old new → new ≤ old → (new ≡ last_count → ⊥) → ⊥
-    by (inl lt) le ne = absurd (omega (arith, lt, le))
-    by (inr e) le ne = ne e
+-- masks that can't be read for want of memory, or for a failed read, say nothing of the store
+pub unread_found : (s : Super) (image : Image) (why : LoadFault) → (IsImageFault why → ⊥) → IsFaultFound s image why
+unread_found s image fault.ReadFault none = tt
+unread_found s image fault.Memory none = tt
+unread_found s image (fault.Super e) none = absurd (none tt)
+unread_found s image (fault.Chain head e) none = absurd (none tt)
+unread_found s image (fault.Meta head e) none = absurd (none tt)
+unread_found s image (fault.MapsTooLarge slots) none = absurd (none tt)
+unread_found s image (fault.NoParentBlob blob parent) none = absurd (none tt)
+unread_found s image (fault.WritableParent blob parent) none = absurd (none tt)
+unread_found s image (fault.ParentLoop blob) none = absurd (none tt)
+unread_found s image (fault.Shared cluster a b) none = absurd (none tt)
+unread_found s image (fault.NoRoom head has wants) none = absurd (none tt)
 
 -- ---- by the masks
 
@@ -88,21 +76,22 @@ module _ (look : Look) (r : MdRegion) (heads : Heads) (metas : Metas) (chains : 
   pages_fail (fault.ParentLoop blob) x = absurd x
   pages_fail (fault.Shared cluster a b) x = absurd x
 
--- a fault that some heads show, of those by which a load goes
-module _ (used : Heads → Type 0) (look : Look) (r : MdRegion) (heads : Heads) where
-  pub fault_found : (why : LoadFault) → (ShowsFirst look r heads why → used heads) → IsHeadsFault look r heads why
-      → IsFaultFound used look r why
+-- a fault that some heads show, where these are the store's
+module _ (s : Super) (image : Image) (heads : Heads) where
+  pub fault_found : (why : LoadFault)
+      → (ShowsFirst (look_of (region_of s) image) (region_of s) heads why → AreHeads s image heads)
+      → IsHeadsFault (look_of (region_of s) image) (region_of s) heads why → IsFaultFound s image why
   fault_found fault.ReadFault are x = tt
   fault_found fault.Memory are x = tt
-  fault_found (fault.Super e) are x = record { heads = heads; are_used = are x; shows = x }
-  fault_found (fault.Chain head e) are x = record { heads = heads; are_used = are x; shows = x }
-  fault_found (fault.Meta head e) are x = record { heads = heads; are_used = are x; shows = x }
-  fault_found (fault.MapsTooLarge slots) are x = record { heads = heads; are_used = are x; shows = x }
-  fault_found (fault.NoParentBlob blob parent) are x = record { heads = heads; are_used = are x; shows = x }
-  fault_found (fault.WritableParent blob parent) are x = record { heads = heads; are_used = are x; shows = x }
-  fault_found (fault.ParentLoop blob) are x = record { heads = heads; are_used = are x; shows = x }
-  fault_found (fault.Shared cluster a b) are x = record { heads = heads; are_used = are x; shows = x }
-  fault_found (fault.NoRoom head has wants) are x = record { heads = heads; are_used = are x; shows = x }
+  fault_found (fault.Super e) are x = record { heads = heads; are = are x; shows = x }
+  fault_found (fault.Chain head e) are x = record { heads = heads; are = are x; shows = x }
+  fault_found (fault.Meta head e) are x = record { heads = heads; are = are x; shows = x }
+  fault_found (fault.MapsTooLarge slots) are x = record { heads = heads; are = are x; shows = x }
+  fault_found (fault.NoParentBlob blob parent) are x = record { heads = heads; are = are x; shows = x }
+  fault_found (fault.WritableParent blob parent) are x = record { heads = heads; are = are x; shows = x }
+  fault_found (fault.ParentLoop blob) are x = record { heads = heads; are = are x; shows = x }
+  fault_found (fault.Shared cluster a b) are x = record { heads = heads; are = are x; shows = x }
+  fault_found (fault.NoRoom head has wants) are x = record { heads = heads; are = are x; shows = x }
 
 module _ (s : Super) (masks : Masks) (image : Image) (clean : s.clean ≡ 1) (says : SaysMasks s masks image) where
   -- masks whose heads show a fault are trusted
@@ -122,10 +111,8 @@ module _ (s : Super) (masks : Masks) (image : Image) (clean : s.clean ≡ 1) (sa
 
   pub fails_by_masks : (why : LoadFault)
       → IsHeadsFault (look_of (region_of s) image) (region_of s) (Listed masks.blobs) why
-      → IsFaultFound (AreHeads s image) (look_of (region_of s) image) (region_of s) why
-  fails_by_masks why x =
-      fault_found (AreHeads s image) (look_of (region_of s) image) (region_of s) (Listed masks.blobs) why
-      (faulty_heads why) x
+      → IsFaultFound s image why
+  fails_by_masks why x = fault_found s image (Listed masks.blobs) why (faulty_heads why) x
 
 -- masks that were read of a device, whose heads were read then
 module _ {D : Type 0} (d : Ghosts D) (s : Super) (masks : Masks) (old mid : D) (same : d.now mid ≡ d.now old)
@@ -133,7 +120,7 @@ module _ {D : Type 0} (d : Ghosts D) (s : Super) (masks : Masks) (old mid : D) (
   -- a fault of these is one of the device as it was
   pub fault_by_masks : (why : LoadFault)
       → IsHeadsFault (region_look s (d.now mid)) (region_of s) (Listed masks.blobs) why
-      → IsFaultFound (AreHeads s (d.now old)) (look_of (region_of s) (d.now old)) (region_of s) why
+      → IsFaultFound s (d.now old) why
   fault_by_masks why x =
       fails_by_masks s masks (d.now old) clean says why
       (subst (λ (image : Image). IsHeadsFault (region_look s image) (region_of s) (Listed masks.blobs) why) same x)
@@ -147,10 +134,10 @@ module _ {D : Type 0} (d : Ghosts D) (s : Super) (masks : Masks) (old mid : D) (
 
     -- where they are what the blobs claim, these are those of the store
     pub read_by_masks : UsedPages s.md_len masks.pages chains [] × UsedClusters s masks.clusters metas Unclaimed
-        → IsReadBy (AreHeads s (d.now old)) true s (d.now old) metas chains
+        → IsReadBy true s (d.now old) metas chains
     read_by_masks claimed = record {
       heads = Listed masks.blobs;
-      are_used = (
+      are = (
         masks,
         is_trusted s masks (d.now old) metas chains fit whole_then clean says claimed.0 claimed.1,
         refl,
@@ -168,73 +155,21 @@ module _ {D : Type 0} (d : Ghosts D) (s : Super) (masks : Masks) (old mid : D) (
         (subst (λ (m : Masks). IsQuick s m (d.now old)) (one other quick.says) quick)
 
     -- whose chains have no page in common, so that memory alone is wanting
-    pub pages_by_masks : (why : LoadFault) → IsPageFault (IsInTwo chains) why
-        → IsFaultFound (AreHeads s (d.now old)) (look_of (region_of s) (d.now old)) (region_of s) why
+    pub pages_by_masks : (why : LoadFault) → IsPageFault (IsInTwo chains) why → IsFaultFound s (d.now old) why
     pages_by_masks why x =
         fails_by_masks s masks (d.now old) clean says why
         (pages_fail (look_of (region_of s) (d.now old)) (region_of s) (Listed masks.blobs) metas chains whole_then why
         x)
 
--- what is read by the store's heads is read by those of the load
-module _ (s : Super) (image : Image) (old new : ℕ) where
-  pub read_used : (quick : Bool) (metas : Metas) (chains : Chains)
-      → IsReadBy (AreHeads s image) quick s image metas chains
-      → IsReadBy (AreUsed old new s image) quick s image metas chains
-  read_used quick metas chains x =
-      record { heads = x.heads; are_used = inl x.are_used; quick_is = x.quick_is; whole = x.whole }
-
-  used_fault : (why : LoadFault) → ShowsBy (AreHeads s image) (look_of (region_of s) image) (region_of s) why
-      → ShowsBy (AreUsed old new s image) (look_of (region_of s) image) (region_of s) why
-  used_fault why x = record { heads = x.heads; are_used = inl x.are_used; shows = x.shows }
-
-  -- and so is a fault
-  pub fault_used : (why : LoadFault) → IsFaultFound (AreHeads s image) (look_of (region_of s) image) (region_of s) why
-      → IsFaultFound (AreUsed old new s image) (look_of (region_of s) image) (region_of s) why
-  fault_used fault.ReadFault x = tt
-  fault_used fault.Memory x = tt
-  fault_used (fault.Super e) x = used_fault (fault.Super e) x
-  fault_used (fault.Chain head e) x = used_fault (fault.Chain head e) x
-  fault_used (fault.Meta head e) x = used_fault (fault.Meta head e) x
-  fault_used (fault.MapsTooLarge slots) x = used_fault (fault.MapsTooLarge slots) x
-  fault_used (fault.NoParentBlob blob parent) x = used_fault (fault.NoParentBlob blob parent) x
-  fault_used (fault.WritableParent blob parent) x = used_fault (fault.WritableParent blob parent) x
-  fault_used (fault.ParentLoop blob) x = used_fault (fault.ParentLoop blob) x
-  fault_used (fault.Shared cluster a b) x = used_fault (fault.Shared cluster a b) x
-  fault_used (fault.NoRoom head has wants) x = used_fault (fault.NoRoom head has wants) x
-
 -- ---- by a scan
 
--- a scan, where no masks were trusted unless a read failed
-module _ (s : Super) (image : Image) (old mid new : ℕ)
-    (none : (Rose old mid → ⊥) → (masks : Masks) → IsQuick s masks image → ⊥) where
-  pub scan_used : new ≡ mid → AreUsed old new s image ByScan
-  scan_used same = elim (rose_or_not old mid) [
-    | inl rose ↦ inr (subst (λ (n : ℕ). Rose old n) (sym same) rose, refl)
-    | inr still ↦ inl (none still)
-  ]
-
-  pub read_scan : new ≡ mid → (metas : Metas) (chains : Chains)
+-- a scan, where no masks are trusted
+module _ (s : Super) (image : Image) (none : (masks : Masks) → IsQuick s masks image → ⊥) where
+  pub read_scan : (metas : Metas) (chains : Chains)
       → AreWhole (look_of (region_of s) image) (region_of s) ByScan metas chains
-      → IsReadBy (AreUsed old new s image) false s image metas chains
-  read_scan same metas chains whole =
-      record { heads = ByScan; are_used = scan_used same; quick_is = refl; whole = whole }
+      → IsReadBy false s image metas chains
+  read_scan metas chains whole = record { heads = ByScan; are = none; quick_is = refl; whole = whole }
 
-  scan_shows : (why : LoadFault) → new ≡ mid
-      → ShowsFirst (look_of (region_of s) image) (region_of s) ByScan why
-      → ShowsBy (AreUsed old new s image) (look_of (region_of s) image) (region_of s) why
-  scan_shows why same x = record { heads = ByScan; are_used = scan_used same; shows = x }
-
-  pub scan_fails : (why : LoadFault) → IsOnlyFault mid new why
-      → IsHeadsFault (look_of (region_of s) image) (region_of s) ByScan why
-      → IsFaultFound (AreUsed old new s image) (look_of (region_of s) image) (region_of s) why
-  scan_fails fault.ReadFault only x = tt
-  scan_fails fault.Memory only x = tt
-  scan_fails (fault.Super e) only x = scan_shows (fault.Super e) only x
-  scan_fails (fault.Chain head e) only x = scan_shows (fault.Chain head e) only x
-  scan_fails (fault.Meta head e) only x = scan_shows (fault.Meta head e) only x
-  scan_fails (fault.MapsTooLarge slots) only x = scan_shows (fault.MapsTooLarge slots) only x
-  scan_fails (fault.NoParentBlob blob parent) only x = scan_shows (fault.NoParentBlob blob parent) only x
-  scan_fails (fault.WritableParent blob parent) only x = scan_shows (fault.WritableParent blob parent) only x
-  scan_fails (fault.ParentLoop blob) only x = scan_shows (fault.ParentLoop blob) only x
-  scan_fails (fault.Shared cluster a b) only x = scan_shows (fault.Shared cluster a b) only x
-  scan_fails (fault.NoRoom head has wants) only x = absurd only
+  pub scan_fails : (why : LoadFault) → IsHeadsFault (look_of (region_of s) image) (region_of s) ByScan why
+      → IsFaultFound s image why
+  scan_fails why x = fault_found s image ByScan why (λ _. none) x

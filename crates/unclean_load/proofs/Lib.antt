@@ -28,4 +28,4 @@ pub mod MaskClaims
 pub mod Quick
 pub mod SamePages
 pub mod FoundBlobs
-pub mod UsedHeads
+pub mod BehindSuper

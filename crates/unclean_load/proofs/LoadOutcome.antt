@@ -18,10 +18,10 @@ use Rattle.store_model.specs.Regions.{MdRegion, region_of, look_of}
 use Rattle.unclean_load.specs.declared.fault.LoadFault.{LoadFault}
 use Rattle.unclean_load.specs.declared.fault.LoadFault.TheVariants as fault
 use Rattle.unclean_load.specs.declared.heads.Heads.{Heads}
-use Rattle.unclean_load.specs.Accepted.{FailsBy, IsFaultBy, ParentFails, StoreFails, SuperAt}
+use Rattle.unclean_load.specs.Accepted.{FailsBy, IsFaultOf, ParentFails, StoreFails, SuperAt}
 use Rattle.unclean_load.specs.Claiming.{AreChains, IsInTwo, IsTwice, IsRecoveryFault}
 use Rattle.unclean_load.specs.Heads.{AreWhole}
-use Rattle.unclean_load.specs.Quick.{IsFaultFound, ShowsBy}
+use Rattle.unclean_load.specs.Quick.{AreHeads, IsFaultFound, ShowsBy}
 use Rattle.unclean_load.specs.Parents.{ShowsParentFirst}
 use Rattle.unclean_load.specs.Reading.{AreRead, IsChainOf}
 use Rattle.unclean_load.proofs.PlaceSays.{apart}
@@ -77,32 +77,29 @@ holds_metadata d before after s metas chains at pages says same =
 
 -- ---- faults of an image
 
-module _ (kind : Super → Image → Heads → Type 0) (pages : ℕ) (image : Image) (s : Super) (at : SuperAt pages image s)
-  where
-    by_shown : (why : LoadFault) → ((x : ShowsBy (kind s image) (look_of (region_of s) image) (region_of s) why)
-        → FailsBy s image x.heads why) → ShowsBy (kind s image) (look_of (region_of s) image) (region_of s) why
-        → StoreFails kind pages image why
-    by_shown why fails x = record { sup = s; super_at = at; heads = x.heads; are = x.are_used; fails = fails x }
+module _ (pages : ℕ) (image : Image) (s : Super) (at : SuperAt pages image s) where
+  by_shown : (why : LoadFault) → ((x : ShowsBy s image why) → FailsBy s image x.heads why) → ShowsBy s image why
+      → StoreFails pages image why
+  by_shown why fails x = record { sup = s; super_at = at; heads = x.heads; are = x.are; fails = fails x }
 
-    -- the first fault that a head shows is one of the image
-    pub heads_fail : (why : LoadFault) → IsFaultFound (kind s image) (look_of (region_of s) image) (region_of s) why
-        → IsFaultBy kind pages image why
-    heads_fail (fault.Super e) x = absurd x.shows.shows
-    heads_fail fault.ReadFault x = tt
-    heads_fail fault.Memory x = tt
-    heads_fail (fault.Chain head e) x = by_shown (fault.Chain head e) (λ y. y.shows) x
-    heads_fail (fault.Meta head e) x = by_shown (fault.Meta head e) (λ y. y.shows) x
-    heads_fail (fault.MapsTooLarge slots) x = by_shown (fault.MapsTooLarge slots) (λ y. y.shows) x
-    heads_fail (fault.NoParentBlob blob parent) x = absurd x.shows.shows
-    heads_fail (fault.WritableParent blob parent) x = absurd x.shows.shows
-    heads_fail (fault.ParentLoop blob) x = absurd x.shows.shows
-    heads_fail (fault.Shared cluster a b) x = absurd x.shows.shows
-    heads_fail (fault.NoRoom head has wants) x = absurd x.shows.shows
+  -- the first fault that a head shows is one of the image
+  pub heads_fail : (why : LoadFault) → IsFaultFound s image why → IsFaultOf pages image why
+  heads_fail (fault.Super e) x = absurd x.shows.shows
+  heads_fail fault.ReadFault x = tt
+  heads_fail fault.Memory x = tt
+  heads_fail (fault.Chain head e) x = by_shown (fault.Chain head e) (λ y. y.shows) x
+  heads_fail (fault.Meta head e) x = by_shown (fault.Meta head e) (λ y. y.shows) x
+  heads_fail (fault.MapsTooLarge slots) x = by_shown (fault.MapsTooLarge slots) (λ y. y.shows) x
+  heads_fail (fault.NoParentBlob blob parent) x = absurd x.shows.shows
+  heads_fail (fault.WritableParent blob parent) x = absurd x.shows.shows
+  heads_fail (fault.ParentLoop blob) x = absurd x.shows.shows
+  heads_fail (fault.Shared cluster a b) x = absurd x.shows.shows
+  heads_fail (fault.NoRoom head has wants) x = absurd x.shows.shows
 
 -- heads by which all are whole
-module _ (kind : Super → Image → Heads → Type 0) (pages : ℕ) (image : Image) (s : Super) (at : SuperAt pages image s)
-    (heads : Heads) (are : kind s image heads) where
-  shown : (why : LoadFault) → FailsBy s image heads why → StoreFails kind pages image why
+module _ (pages : ℕ) (image : Image) (s : Super) (at : SuperAt pages image s) (heads : Heads)
+    (are : AreHeads s image heads) where
+  shown : (why : LoadFault) → FailsBy s image heads why → StoreFails pages image why
   shown why x = record { sup = s; super_at = at; heads = heads; are = are; fails = x }
 
   module _ (metas : Metas) (chains : Chains)
@@ -111,7 +108,7 @@ module _ (kind : Super → Image → Heads → Type 0) (pages : ℕ) (image : Im
     parents_fail why x = record { metas = metas; chains = chains; whole = whole; shows = x }
 
     -- a fault of what is resolved is one of the image too
-    pub recovery_fails : (why : LoadFault) → IsRecoveryFault s.md_len metas chains why → IsFaultBy kind pages image why
+    pub recovery_fails : (why : LoadFault) → IsRecoveryFault s.md_len metas chains why → IsFaultOf pages image why
     recovery_fails (fault.Chain head why) x =
         absurd (not_twice (look_of (region_of s) image) (region_of s) heads metas chains whole head why x)
     recovery_fails (fault.NoParentBlob blob parent) x =

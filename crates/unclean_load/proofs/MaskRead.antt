@@ -4,7 +4,6 @@ use Rattle.std.proofs.Common.{None, refl, sym, ap, subst, ◌∙◌, inl, inr, a
 use Rattle.std.specs.Prelude.{IsTrue, ◌==◌}
 use Rattle.std.proofs.lemmas.Bool.{cases_eq, eq-eqb, ne_eqb}
 use Rattle.bit_array.specs.Fault.{head_fault, next_fault}
-use Rattle.bit_array.specs.Mask.{bits_in, mask_pages}
 use Rattle.bit_array.specs.Reading.{HasRead, MaskReading}
 use Rattle.bit_array.specs.declared.reader.MaskFault.{MaskFault}
 use Rattle.clean_stop.specs.Masks.{SaysMask, text_from}
@@ -97,25 +96,3 @@ module _ {D : Type 0} (d : Ghosts D) (first : D) (start kind len : ℕ) where
           absurd (cc bad)
       | inr ne ↦ let bad : None ≡ Some why = sym (later_fault ne) ∙ is in absurd (cc bad)
     ]
-
-  -- all pages were read
-  module _ (disk : D) (index : ℕ) (reader : MaskReading) (w : MaskRead d first disk start kind len index reader)
-      (all : index ≡ mask_pages len) where
-    pub all_fed : reader.fed ≡ mask_pages (length reader.bits)
-    all_fed = w.fed ∙ all ∙ ap mask_pages (sym w.count)
-
-    -- so the mask says the set
-    pub set_said : IsTrue d.tells → (bits : List Bool) → length bits ≡ length reader.bits
-        → ((k n : ℕ) (text : List ℕ) → HasRead reader k n text → bits ≡ bits_in n text)
-        → SaysMask start kind bits (d.now first)
-    set_said told bits long says =
-        let count : length bits ≡ len = long ∙ w.count in
-        record {
-          head =
-              subst (λ (n : ℕ). head_fault kind n (d.now first start) ≡ None) (sym count)
-              (w.head told (let e = all in omega (arith, e)));
-          says =
-              says kind len w.text w.has
-              ∙ ap (bits_in len) (w.told told ∙ ap (λ (n : ℕ). text_from start n (d.now first)) all)
-              ∙ ap (λ (n : ℕ). bits_in n (text_from start (mask_pages n) (d.now first))) (sym count);
-        }

@@ -1,9 +1,7 @@
 -- The blobs whose parents were tested, heads upwards.
 use Rattle.std.proofs.Common.{◌≡◌, ℕ, ◌+◌, ◌<◌, List, length, Option, Some, None, IsSome, refl, sym, ap, subst, ◌∙◌}
 use Rattle.std.proofs.Common.{inl, inr, arith}
-use Rattle.std.specs.Prelude.{replicate}
 use Rattle.std.proofs.lemmas.Bool.{cases_eq}
-use Rattle.std.proofs.lemmas.List.{length-replicate}
 use Rattle.blob_meta.specs.declared.meta.Meta.{Meta}
 use Rattle.blob_meta.specs.Repairs.{HasHeadsBelow}
 use Rattle.store_model.specs.Maps.{Metas}
@@ -11,7 +9,6 @@ use Rattle.unclean_load.specs.declared.fault.LoadFault.{LoadFault}
 use Rattle.unclean_load.specs.Parents.{HasRightParent, HaveRightParents, ShowsParent, ShowsParentFirst}
 use Rattle.unclean_load.specs.Walks.{AreWalked, ParentsEnd}
 use Rattle.unclean_load.proofs.Ancestors.{ends_never_back, right_parents}
-use Rattle.unclean_load.proofs.WalkSteps.{none_walked}
 
 -- each blob below a head has a right parent, and following parents from it ends
 pub record Tested (metas : Metas) (begun : List (Option ℕ)) (head count : ℕ) : Type 0 where
@@ -19,16 +16,6 @@ pub record Tested (metas : Metas) (begun : List (Option ℕ)) (head count : ℕ)
   pub walked : AreWalked metas begun head
   pub right : (k : ℕ) (m : Meta) → k < head → metas k ≡ Some m → HasRightParent metas m
   pub ends : (k : ℕ) (m : Meta) → k < head → metas k ≡ Some m → ParentsEnd metas k
-
--- none was tested so far
-pub none_tested : (metas : Metas) (begun : List (Option ℕ)) (n : ℕ) → begun ≡ replicate n None
-    → Tested metas begun 0 n
-none_tested metas begun n is = record {
-  length_is = ap length is ∙ length-replicate {A = Option ℕ} n None;
-  walked = none_walked metas begun n is;
-  right = λ k m lt. absurd (omega (arith, lt));
-  ends = λ k m lt. absurd (omega (arith, lt));
-}
 
 module _ (metas : Metas) (begun : List (Option ℕ)) (head count : ℕ) (t : Tested metas begun head count) where
   -- there is no blob at the head

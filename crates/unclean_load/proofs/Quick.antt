@@ -7,7 +7,7 @@ use Rattle.std.proofs.lemmas.List.{get_or_past}
 use Rattle.bit_array.specs.Bits.{is_in}
 use Rattle.blob_meta.specs.Resolving.{slots_together}
 use Rattle.clean_stop.specs.Masks.{MasksFit, SaysMasks}
-use Rattle.page_disk.specs.Disk.{Image, Rose}
+use Rattle.page_disk.specs.Disk.{Image}
 use Rattle.running_store.specs.LoadedWhole.{AreMasks}
 use Rattle.store_model.specs.Maps.{Metas, Chains}
 use Rattle.store_model.specs.Regions.{look_of, region_of}
@@ -16,8 +16,7 @@ use Rattle.store_model.proofs.Scanning.{is_at}
 use Rattle.super_block.specs.declared.masks.Masks.{Masks}
 use Rattle.super_block.specs.declared.page.Super.{Super}
 use Rattle.unclean_load.specs.Heads.{AreWhole, is_listed}
-use Rattle.unclean_load.specs.Quick.{AreHeads, AreListed, AreUsed, HasNoHeadBesideMask, HasNoOtherHead, IsQuick}
-use Rattle.unclean_load.specs.Quick.{IsReadBy}
+use Rattle.unclean_load.specs.Quick.{AreHeads, AreListed, HasNoHeadBesideMask, HasNoOtherHead, IsQuick, IsReadBy}
 use Rattle.unclean_load.specs.declared.heads.Heads.{Heads}
 use Rattle.unclean_load.specs.declared.heads.Heads.TheVariants.{ByScan, Listed}
 use Rattle.unclean_load.proofs.MaskClaims.{none_of, some_of}
@@ -37,42 +36,37 @@ module _ (one : (s : Super) (a b : Masks) (image : Image) → SaysMasks s a imag
       let same = one s x.0 y.0 image x.1.says y.1.says in
       ap (λ (l : List Bool). Listed l) (x.2 ∙ ap (λ (m : Masks). m.blobs) same ∙ sym y.2)
 
-  -- where the masks are trusted, and no read failed, a load goes by them
-  pub goes_by_masks : (old new : ℕ) (quick : Bool) (metas : Metas) (chains : Chains)
-      → IsReadBy (AreUsed old new s image) quick s image metas chains → (Rose old new → ⊥)
-      → (quick ≡ true) ↔ ((masks : Masks) × IsQuick s masks image)
-  goes_by_masks old new quick metas chains x none = (
-    λ is. to x.heads x.are_used (sym x.quick_is ∙ is),
-    λ masks. x.quick_is ∙ from x.heads x.are_used masks.0 masks.1,
+module _ (s : Super) (image : Image) (quick : Bool) (metas : Metas) (chains : Chains)
+    (x : IsReadBy quick s image metas chains) where
+  -- where the masks are trusted a load goes by them
+  pub goes_by_masks : (quick ≡ true) ↔ ((masks : Masks) × IsQuick s masks image)
+  goes_by_masks = (
+    λ is. to x.heads x.are (sym x.quick_is ∙ is),
+    λ masks. x.quick_is ∙ from x.heads x.are masks.0 masks.1,
   )
     where
-      to : (heads : Heads) → AreUsed old new s image heads → is_listed heads ≡ true
+      to : (heads : Heads) → AreHeads s image heads → is_listed heads ≡ true
           → (masks : Masks) × IsQuick s masks image
-      to ByScan used is = absurd (cc is)
-      to (Listed places) (inl are) is = (are.0, are.1)
-      to (Listed places) (inr failed) is = absurd (none failed.0)
+      to ByScan are is = absurd (cc is)
+      to (Listed places) are is = (are.0, are.1)
 
-      from : (heads : Heads) → AreUsed old new s image heads → (masks : Masks) → IsQuick s masks image
+      from : (heads : Heads) → AreHeads s image heads → (masks : Masks) → IsQuick s masks image
           → is_listed heads ≡ true
-      from ByScan (inl are) masks quick = absurd (are masks quick)
-      from ByScan (inr failed) masks quick = absurd (none failed.0)
-      from (Listed places) used masks quick = refl
+      from ByScan are masks trusted = absurd (are masks trusted)
+      from (Listed places) are masks trusted = refl
 
   -- where no head stands beside the mask, what is loaded is what a scan says
-  pub said_by_scan : (old new : ℕ) (quick : Bool) (metas : Metas) (chains : Chains)
-      → IsReadBy (AreUsed old new s image) quick s image metas chains → HasNoHeadBesideMask s image
-      → Says (region_of s) metas chains image
-  said_by_scan old new quick metas chains x none = by x.heads x.are_used x.whole
+  pub said_by_scan : HasNoHeadBesideMask s image → Says (region_of s) metas chains image
+  said_by_scan none = by x.heads x.are x.whole
     where
-      by : (heads : Heads) → AreUsed old new s image heads
+      by : (heads : Heads) → AreHeads s image heads
           → AreWhole (look_of (region_of s) image) (region_of s) heads metas chains
           → Says (region_of s) metas chains image
-      by ByScan used whole = scan_of (look_of (region_of s) image) (region_of s) metas chains whole
-      by (Listed places) (inl are) whole =
+      by ByScan are whole = scan_of (look_of (region_of s) image) (region_of s) metas chains whole
+      by (Listed places) are whole =
           scan_of_set (look_of (region_of s) image) (region_of s) metas chains places whole
           (subst (λ (l : List Bool). HasNoOtherHead (look_of (region_of s) image) (region_of s) l) (sym are.2)
           (none are.0 are.1))
-      by (Listed places) (inr failed) whole = absurd (let bad = failed.1 in cc bad)
 
 -- ---- a store whose masks are what its metadata claims
 

@@ -22,9 +22,10 @@ use Rattle.store_model.specs.Steady.{NamesHead}
 use Rattle.unclean_load.specs.declared.fault.LoadFault.{LoadFault}
 use Rattle.unclean_load.specs.declared.fault.LoadFault.TheVariants as fault
 use Rattle.unclean_load.specs.declared.heads.Heads.{Heads}
-use Rattle.unclean_load.specs.Accepted.{AcceptedBy, ClusterFails, FailsBy, HeadFails, IsFaultBy, IsImageFault, LoadsBy}
+use Rattle.unclean_load.specs.Accepted.{ClusterFails, FailsBy, HeadFails, IsAccepted, IsFaultOf, IsImageFault, LoadsBy}
 use Rattle.unclean_load.specs.Accepted.{ParentFails, StoreFails}
 use Rattle.unclean_load.specs.Heads.{AreWhole, Shows, ShowsFirst}
+use Rattle.unclean_load.specs.Quick.{AreHeads}
 use Rattle.unclean_load.specs.Parents.{HasWritableParent, NamesNoBlob, ShowsParent, ShowsParentFirst}
 use Rattle.unclean_load.proofs.PlaceSays.{blob_of_head, one_metas, one_place}
 use Rattle.unclean_load.proofs.Ancestors.{never_back}
@@ -180,20 +181,19 @@ module _ (s : Super) (image : Image) (heads : Heads) (a : LoadsBy s image heads)
   none_fails (fault.Meta head e) is x = no_head_fails (fault.Meta head e) x
   none_fails (fault.MapsTooLarge slots) is x = no_head_fails (fault.MapsTooLarge slots) x
 
--- an image that is accepted has no fault, where the heads of the two kinds are the same
-module _ (pages : ℕ) (image : Image) (kind other : Super → Image → Heads → Type 0)
-    (same : (s : Super) (a b : Heads) → kind s image a → other s image b → a ≡ b) where
-  store_fails : AcceptedBy kind pages image → (why : LoadFault) → IsImageFault why
-      → StoreFails other pages image why → ⊥
+-- an image that is accepted has no fault, since a store has one set of heads
+module _ (pages : ℕ) (image : Image)
+    (one : (s : Super) (a b : Heads) → AreHeads s image a → AreHeads s image b → a ≡ b) where
+  store_fails : IsAccepted pages image → (why : LoadFault) → IsImageFault why → StoreFails pages image why → ⊥
   store_fails a why is x =
       let e : a.sup ≡ x.sup = a.super_at.is ∙ sym x.super_at.is in
-      let are : kind x.sup image a.heads = subst (λ (s : Super). kind s image a.heads) e a.are in
-      let heads : a.heads ≡ x.heads = same x.sup a.heads x.heads are x.are in
+      let are : AreHeads x.sup image a.heads = subst (λ (s : Super). AreHeads s image a.heads) e a.are in
+      let heads : a.heads ≡ x.heads = one x.sup a.heads x.heads are x.are in
       none_fails x.sup image x.heads
       (subst (λ (h : Heads). LoadsBy x.sup image h) heads
       (subst (λ (s : Super). LoadsBy s image a.heads) e a.loads)) why is x.fails
 
-  pub refused : AcceptedBy kind pages image → (why : LoadFault) → IsImageFault why → IsFaultBy other pages image why → ⊥
+  pub refused : IsAccepted pages image → (why : LoadFault) → IsImageFault why → IsFaultOf pages image why → ⊥
   refused a (fault.Super e) is (inl none) = let some = a.super_at.some_pages in absurd (omega (arith, some, none.0))
   refused a (fault.Super e) is (inr bad) =
       let fine = a.super_at.faultless in let x = sym fine ∙ bad.1 in absurd (cc x)

@@ -1,6 +1,6 @@
 -- A walk along parents, step by step.
 use Rattle.std.proofs.Common.{◌≡◌, ◌≢◌, ℕ, zero, suc, ◌+◌, ◌<◌, ◌≤◌, List, length, get_or, Option, Some, None, IsSome}
-use Rattle.std.proofs.Common.{refl, sym, ap, subst, ◌∙◌, inl, inr, arith}
+use Rattle.std.proofs.Common.{sym, ap, subst, ◌∙◌, inl, inr, arith}
 use Rattle.std.specs.Prelude.{slice_set, replicate}
 use Rattle.std.specs.List.{sum_by}
 use Rattle.std.specs.Option.{option_and_then, option_map_or}
@@ -68,19 +68,6 @@ pub record Walking (metas : Metas) (begun : List (Option ℕ)) (head at count : 
   pub low : (place first : ℕ) → first_walk begun place ≡ Some first → first ≤ head
   pub earlier : (place first : ℕ) → first_walk begun place ≡ Some first → first ≢ head → ParentsEnd metas place
   pub own : (place : ℕ) → first_walk begun place ≡ Some head → OnWay metas head place at
-
--- it begins at its head
-pub walk_begins : (metas : Metas) (begun : List (Option ℕ)) (head : ℕ) → AreWalked metas begun head
-    → IsSome (metas head) → Walking metas begun head head (length begun)
-walk_begins metas begun head w there = record {
-  length_is = refl;
-  steps = zero;
-  here = refl;
-  there = there;
-  low = λ place first is. let lt = w.low place first is in omega (arith, lt);
-  earlier = λ place first is ne. w.ends place first is;
-  own = λ place is. absurd (let lt = w.low place head is in omega (arith, lt));
-}
 
 module _ (metas : Metas) (begun : List (Option ℕ)) (head at count : ℕ) (w : Walking metas begun head at count) where
   -- what ends where the walk is ended for all places to which walks came

@@ -18,7 +18,6 @@ use Rattle.blob_meta.specs.Resolving.{IsLawful, resolved, slots_together}
 use Rattle.unclean_load.specs.declared.fault.LoadFault.{LoadFault}
 use Rattle.unclean_load.specs.declared.fault.LoadFault.TheVariants as fault
 use Rattle.unclean_load.specs.declared.heads.Heads.{Heads}
-use Rattle.unclean_load.specs.declared.heads.Heads.TheVariants.{ByScan}
 use Rattle.unclean_load.specs.Heads.{AreWhole, ShowsFirst}
 use Rattle.unclean_load.specs.Parents.{HaveRightParents, ShowsParentFirst}
 use Rattle.unclean_load.specs.Quick.{AreHeads, HasNoFaultByMask, HasNoHeadBesideMask, IsQuick}
@@ -39,21 +38,13 @@ pub record LoadsBy (s : Super) (image : Image) (heads : Heads) : Type 0 where
   pub named : AreNamed (resolved metas)
   pub lawful : IsLawful s.md_len (resolved metas)
 
--- A device of so many pages is accepted by heads of this kind: its super block has no fault, and the store is loaded.
-pub record AcceptedBy (kind : Super → Image → Heads → Type 0) (pages : ℕ) (image : Image) : Type 0 where
+-- A device of so many pages is accepted: its super block has no fault, and by its heads the store is loaded.
+pub record IsAccepted (pages : ℕ) (image : Image) : Type 0 where
   pub sup : Super
   pub super_at : SuperAt pages image sup
   pub heads : Heads
-  pub are : kind sup image heads
+  pub are : AreHeads sup image heads
   pub loads : LoadsBy sup image heads
-
--- by the heads of the store
-abbrev pub IsAccepted : ℕ → Image → Type 0
-IsAccepted pages image = AcceptedBy AreHeads pages image
-
--- by the heads that a scan finds, whatever the masks are
-abbrev pub IsAcceptedByScan : ℕ → Image → Type 0
-IsAcceptedByScan pages image = AcceptedBy (λ s image heads. heads ≡ ByScan) pages image
 
 -- ---- faults
 
@@ -91,26 +82,21 @@ FailsBy s image heads (fault.ParentLoop blob) = ParentFails s image heads (fault
 FailsBy s image heads (fault.Shared cluster a b) = ClusterFails s image heads cluster a b
 FailsBy s image heads why = HeadFails s image heads why
 
--- The super block has no fault, but heads of this kind show this one.
-pub record StoreFails (kind : Super → Image → Heads → Type 0) (pages : ℕ) (image : Image) (why : LoadFault) : Type 0
-  where
-    pub sup : Super
-    pub super_at : SuperAt pages image sup
-    pub heads : Heads
-    pub are : kind sup image heads
-    pub fails : FailsBy sup image heads why
+-- The super block has no fault, but the heads of the store show this one.
+pub record StoreFails (pages : ℕ) (image : Image) (why : LoadFault) : Type 0 where
+  pub sup : Super
+  pub super_at : SuperAt pages image sup
+  pub heads : Heads
+  pub are : AreHeads sup image heads
+  pub fails : FailsBy sup image heads why
 
--- The fault of an image by heads of this kind; a failed read and want of memory are none of it. Marks are no fault.
-abbrev pub IsFaultBy : (Super → Image → Heads → Type 0) → ℕ → Image → LoadFault → Type 0
-IsFaultBy kind pages image (fault.Super why) = SuperFails pages image why
-IsFaultBy kind pages image (fault.NoRoom head has wants) = ⊥
-IsFaultBy kind pages image fault.ReadFault = Unit {0}
-IsFaultBy kind pages image fault.Memory = Unit {0}
-IsFaultBy kind pages image why = StoreFails kind pages image why
-
--- by the heads of the store
+-- The fault of an image; a failed read and want of memory are none of it. Marks are no fault.
 abbrev pub IsFaultOf : ℕ → Image → LoadFault → Type 0
-IsFaultOf pages image why = IsFaultBy AreHeads pages image why
+IsFaultOf pages image (fault.Super why) = SuperFails pages image why
+IsFaultOf pages image (fault.NoRoom head has wants) = ⊥
+IsFaultOf pages image fault.ReadFault = Unit {0}
+IsFaultOf pages image fault.Memory = Unit {0}
+IsFaultOf pages image why = StoreFails pages image why
 
 -- a fault of what the device holds
 abbrev pub IsImageFault : LoadFault → Type 0

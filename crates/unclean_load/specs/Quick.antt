@@ -5,7 +5,7 @@ use Rattle.bit_array.specs.Bits.{is_in}
 use Rattle.blob_meta.specs.Resolving.{slots_together}
 use Rattle.clean_stop.specs.Masks.{HasMasks, SaysMasks}
 use Rattle.md_chain.specs.Chain.{Look}
-use Rattle.page_disk.specs.Disk.{Image, Rose}
+use Rattle.page_disk.specs.Disk.{Image}
 use Rattle.running_store.specs.LoadedWhole.{AreMasks}
 use Rattle.store_model.specs.Maps.{Metas, Chains}
 use Rattle.store_model.specs.Regions.{MdRegion, look_of, region_of}
@@ -47,31 +47,25 @@ abbrev pub AreHeads : Super → Image → Heads → Type 0
 AreHeads s image (Listed places) = (masks : Masks) × IsQuick s masks image × (places ≡ masks.blobs)
 AreHeads s image ByScan = (masks : Masks) → IsQuick s masks image → ⊥
 
--- The heads by which a load goes, while the count of read faults comes from one number to another: those of the store,
--- or those that a scan finds where a read has failed, since it may have been that of a mask.
-abbrev pub AreUsed : ℕ → ℕ → Super → Image → Heads → Type 0
-AreUsed old new s image heads = AreHeads s image heads ⊎ (Rose old new × (heads ≡ ByScan))
-
--- The metadata and the chains are those of the heads by which the load went; it was a quick one, where these are those
--- of a mask.
-pub record IsReadBy (used : Heads → Type 0) (quick : Bool) (s : Super) (image : Image) (metas : Metas) (chains : Chains)
-    : Type 0 where
+-- The metadata and the chains are those of the heads of the store; the load was a quick one, where these are those of
+-- its mask.
+pub record IsReadBy (quick : Bool) (s : Super) (image : Image) (metas : Metas) (chains : Chains) : Type 0 where
   pub heads : Heads
-  pub are_used : used heads
+  pub are : AreHeads s image heads
   pub quick_is : quick ≡ is_listed heads
   pub whole : AreWhole (look_of (region_of s) image) (region_of s) heads metas chains
 
--- Of the heads by which a load goes the first that shows a fault shows this one.
-pub record ShowsBy (used : Heads → Type 0) (look : Look) (r : MdRegion) (why : LoadFault) : Type 0 where
+-- Of the heads of the store the first that shows a fault shows this one.
+pub record ShowsBy (s : Super) (image : Image) (why : LoadFault) : Type 0 where
   pub heads : Heads
-  pub are_used : used heads
-  pub shows : ShowsFirst look r heads why
+  pub are : AreHeads s image heads
+  pub shows : ShowsFirst (look_of (region_of s) image) (region_of s) heads why
 
 -- a failed read and want of memory have causes elsewhere
-abbrev pub IsFaultFound : (Heads → Type 0) → Look → MdRegion → LoadFault → Type 0
-IsFaultFound used look r fault.ReadFault = Unit {0}
-IsFaultFound used look r fault.Memory = Unit {0}
-IsFaultFound used look r why = ShowsBy used look r why
+abbrev pub IsFaultFound : Super → Image → LoadFault → Type 0
+IsFaultFound s image fault.ReadFault = Unit {0}
+IsFaultFound s image fault.Memory = Unit {0}
+IsFaultFound s image why = ShowsBy s image why
 
 -- ---- heads beside the mask
 

@@ -67,14 +67,7 @@ IsItemsFault r head items (fault.Meta at why) =
     (at ≡ head) × (meta_fault r.fixed r.clusters (meta_of head items) ≡ Some why)
 IsItemsFault r head items _ = ⊥
 
--- A failed read was counted. After a clean store's masks were read the count may have risen before another fault too. A
--- load never answers `NoRoom`.
-abbrev pub IsFaultCounted : ℕ → ℕ → LoadFault → Type 0
-IsFaultCounted old new fault.ReadFault = Rose old new
-IsFaultCounted old new (fault.NoRoom head has wants) = ⊥
-IsFaultCounted old new _ = Unit {0}
-
--- a failed read, which was counted; or another fault, and no read has failed
+-- A failed read, which was counted; or another fault, and no read has failed. A load never answers `NoRoom`.
 abbrev pub IsOnlyFault : ℕ → ℕ → LoadFault → Type 0
 IsOnlyFault old new fault.ReadFault = Rose old new
 IsOnlyFault old new (fault.NoRoom head has wants) = ⊥

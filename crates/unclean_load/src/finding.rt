@@ -1,16 +1,14 @@
 //! The blobs of a store: by its masks, where these are trusted, and else by a scan.
 
-ghost use Rattle.std.specs.Prelude.{◌≡◌, ◌≤◌, ◌+◌, ◌*◌, ◌^◌, true, IsNone, IsSome, IsTrue, OnOk};
+ghost use Rattle.std.specs.Prelude.{◌≡◌, ◌≤◌, ◌+◌, ◌*◌, ◌^◌, true, IsNone, IsTrue, OnOk};
 ghost use Rattle.std.specs.Prelude.{IfOk, IfErr, IfSome};
 ghost use Rattle.std.specs.FinMap as map;
 ghost use Rattle.blob_meta.specs.Resolving.{slots_together};
 ghost use Rattle.md_chain.specs.Reading.{OnlyRead};
-ghost use Rattle.page_disk.specs.Disk.{Rose};
-ghost use Rattle.store_model.specs.Regions.{look_of, region_of};
 ghost use Rattle.super_block.specs.Faults.{IsFaultless};
 ghost use Rattle.super_block.specs.declared.masks.Masks.{Masks as AllMasks};
-ghost use Rattle.unclean_load.specs.Quick.{AreHeads, AreUsed, IsFaultFound, IsQuick, IsReadBy};
-ghost use Rattle.unclean_load.specs.Reading.{AreRead, IsFaultCounted, IsOnlyFault};
+ghost use Rattle.unclean_load.specs.Quick.{IsFaultFound, IsQuick, IsReadBy};
+ghost use Rattle.unclean_load.specs.Reading.{AreRead, IsOnlyFault};
 ghost use Rattle.unclean_load.specs.Reads.{all_mask_pages, pages_together};
 
 use crate::claimed::are_claimed;
@@ -40,20 +38,15 @@ fn trusted_blobs<D: PageDisk>(
     requires device { sup.now.device_pages ≡ D.pages disk.old }
     requires inside { sup.now.md_start + sup.now.md_len ≤ D.pages disk.old }
     ensures found { IsTrue D.tells → IfOk result (λ blobs. IfSome blobs
-        (λ b. IsReadBy (AreHeads sup.now (D.now disk.old)) true sup.now (D.now disk.old) (map.get b.metas)
-        (map.get b.chains))) }
-    ensures none { IsTrue D.tells → IfOk result (λ blobs. IsNone blobs
-        → (Rose (D.read_faults disk.old) (D.read_faults disk.new) → ⊥)
-        → (m : AllMasks) → IsQuick sup.now m (D.now disk.old) → ⊥) }
-    ensures fault { IsTrue D.tells → IfErr result
-        (λ e. IsFaultFound (AreHeads sup.now (D.now disk.old)) (look_of (region_of sup.now) (D.now disk.old))
-        (region_of sup.now) e) }
+        (λ b. IsReadBy true sup.now (D.now disk.old) (map.get b.metas) (map.get b.chains))) }
+    ensures none { IsTrue D.tells → IfOk result
+        (λ blobs. IsNone blobs → (m : AllMasks) → IsQuick sup.now m (D.now disk.old) → ⊥) }
+    ensures fault { IsTrue D.tells → IfErr result (λ e. IsFaultFound sup.now (D.now disk.old) e) }
     ensures read { IfOk result (λ blobs. IfSome blobs (λ b. AreRead sup.now (map.get b.metas) (map.get b.chains))) }
     ensures few { IfOk result
         (λ blobs. IfSome blobs (λ b. slots_together sup.now.md_len (map.get b.metas) ≤ 2 ^ 24)) }
-    ensures counted { IfErr result (λ e. IsFaultCounted (D.read_faults disk.old) (D.read_faults disk.new) e) }
-    ensures quiet { IfOk result (λ blobs. IsSome blobs → D.read_faults disk.new ≡ D.read_faults disk.old) }
-    ensures in_use { (sup.now.clean ≡ 1 → ⊥) → (result ≡ Ok None) × (disk.new ≡ disk.old) }
+    ensures counted { IfErr result (λ e. IsOnlyFault (D.read_faults disk.old) (D.read_faults disk.new) e) }
+    ensures quiet { OnOk result (D.read_faults disk.new ≡ D.read_faults disk.old) }
     ensures reads { IfOk result (λ blobs. IfSome blobs (λ b. D.reads disk.new
         ≤ D.reads disk.old + all_mask_pages sup.now + pages_together sup.now.md_len (map.get b.chains))) }
     ensures at_ok { IsTrue D.tells
@@ -91,21 +84,15 @@ pub fn find_blobs<D: PageDisk>(alloc: Global, disk: &mut D, sup: &Super) -> Resu
 
     // Where the device tells, they are what the heads of its image say.
     ensures found { IsTrue D.tells → IfOk result
-        (λ f. IsReadBy (AreUsed (D.read_faults disk.old) (D.read_faults disk.new) sup.now (D.now disk.old)) f.quick
-        sup.now (D.now disk.old) (map.get f.blobs.metas) (map.get f.blobs.chains)) }
-    ensures fault { IsTrue D.tells → IfErr result
-        (λ e. IsFaultFound (AreUsed (D.read_faults disk.old) (D.read_faults disk.new) sup.now (D.now disk.old))
-        (look_of (region_of sup.now) (D.now disk.old)) (region_of sup.now) e) }
+        (λ f. IsReadBy f.quick sup.now (D.now disk.old) (map.get f.blobs.metas) (map.get f.blobs.chains)) }
+    ensures fault { IsTrue D.tells → IfErr result (λ e. IsFaultFound sup.now (D.now disk.old) e) }
 
     // Whatever it tells, they are in order.
     ensures read { IfOk result (λ f. AreRead sup.now (map.get f.blobs.metas) (map.get f.blobs.chains)) }
     ensures few { IfOk result (λ f. slots_together sup.now.md_len (map.get f.blobs.metas) ≤ 2 ^ 24) }
 
-    ensures counted { IfErr result (λ e. IsFaultCounted (D.read_faults disk.old) (D.read_faults disk.new) e) }
-    ensures quiet { IfOk result (λ f. f.quick ≡ true → D.read_faults disk.new ≡ D.read_faults disk.old) }
-    ensures in_use { (sup.now.clean ≡ 1 → ⊥) → OnOk result (D.read_faults disk.new ≡ D.read_faults disk.old) }
-    ensures in_use_fault { (sup.now.clean ≡ 1 → ⊥)
-        → IfErr result (λ e. IsOnlyFault (D.read_faults disk.old) (D.read_faults disk.new) e) }
+    ensures counted { IfErr result (λ e. IsOnlyFault (D.read_faults disk.old) (D.read_faults disk.new) e) }
+    ensures quiet { OnOk result (D.read_faults disk.new ≡ D.read_faults disk.old) }
     ensures reads { IfOk result (λ f. f.quick ≡ true → D.reads disk.new
         ≤ D.reads disk.old + all_mask_pages sup.now + pages_together sup.now.md_len (map.get f.blobs.chains)) }
     ensures at_most { IsTrue D.tells

@@ -1,9 +1,8 @@
 //! A store, loaded whole.
 
-ghost use Rattle.std.specs.Prelude.{◌≡◌, ◌≤◌, ◌+◌, ◌↔◌, true, IsTrue, IfOk, IfErr, MatchResult};
+ghost use Rattle.std.specs.Prelude.{◌≡◌, ◌≤◌, ◌+◌, ◌↔◌, true, IsTrue, OnOk, IfOk, IfErr, MatchResult};
 ghost use Rattle.std.specs.FinMap as map;
 ghost use Rattle.md_chain.specs.Reading.{OnlyRead};
-ghost use Rattle.page_disk.specs.Disk.{Rose};
 ghost use Rattle.running_store.specs.Recovered.{IsLoadedFrom, IsRecovered, base_of};
 ghost use Rattle.running_store.specs.Surviving.{HoldsMetadata};
 ghost use Rattle.store_model.specs.Regions.{region_of};
@@ -11,10 +10,9 @@ ghost use Rattle.store_model.specs.Scans.{Says};
 ghost use Rattle.super_block.specs.Faults.{IsFaultless};
 ghost use Rattle.super_block.specs.Page.{super_of};
 ghost use Rattle.super_block.specs.declared.masks.Masks.{Masks};
-ghost use Rattle.unclean_load.specs.Accepted.{AcceptedBy, IsAccepted, IsAcceptedByScan, IsFaultBy, IsImageFault};
-ghost use Rattle.unclean_load.specs.Accepted.{SuperAt};
-ghost use Rattle.unclean_load.specs.Quick.{AreUsed, HasNoHeadBesideMask, IsQuick, IsReadBy};
-ghost use Rattle.unclean_load.specs.Reading.{IsFaultCounted, IsOnlyFault};
+ghost use Rattle.unclean_load.specs.Accepted.{IsAccepted, IsFaultOf, IsImageFault, SuperAt};
+ghost use Rattle.unclean_load.specs.Quick.{HasNoHeadBesideMask, IsQuick, IsReadBy};
+ghost use Rattle.unclean_load.specs.Reading.{IsOnlyFault};
 ghost use Rattle.unclean_load.specs.Reads.{most_reads, quick_reads};
 
 use crate::fault::LoadFault;
@@ -40,11 +38,9 @@ fn read_store<D: PageDisk>(alloc: Global, disk: &mut D) -> Result<Store, LoadFau
     // Where the device tells, this is what its image says.
     ensures super_block { IsTrue D.tells → IfOk result (λ s. SuperAt (D.pages disk.old) (D.now disk.old) s.sup) }
     ensures found { IsTrue D.tells → IfOk result
-        (λ s. IsReadBy (AreUsed (D.read_faults disk.old) (D.read_faults disk.new) s.sup (D.now disk.old)) s.quick s.sup
-        (D.now disk.old) (base_of s.recovered.metas s.recovered.marked) (map.get s.recovered.chains)) }
-    ensures fault { IsTrue D.tells → IfErr result
-        (λ e. IsFaultBy (AreUsed (D.read_faults disk.old) (D.read_faults disk.new)) (D.pages disk.old) (D.now disk.old)
-        e) }
+        (λ s. IsReadBy s.quick s.sup (D.now disk.old) (base_of s.recovered.metas s.recovered.marked)
+        (map.get s.recovered.chains)) }
+    ensures fault { IsTrue D.tells → IfErr result (λ e. IsFaultOf (D.pages disk.old) (D.now disk.old) e) }
 
     // Whatever it tells, the store is in order.
     ensures faultless { IfOk result (λ s. IsFaultless s.sup) }
@@ -54,11 +50,8 @@ fn read_store<D: PageDisk>(alloc: Global, disk: &mut D) -> Result<Store, LoadFau
         (λ s. IsRecovered s.sup (base_of s.recovered.metas s.recovered.marked) (map.get s.recovered.chains)
         s.recovered.metas s.recovered.removed s.recovered.marked s.recovered.repairs s.recovered.masks) }
 
-    ensures counted { IfErr result (λ e. IsFaultCounted (D.read_faults disk.old) (D.read_faults disk.new) e) }
-    ensures quiet { IfOk result (λ s. s.quick ≡ true → D.read_faults disk.new ≡ D.read_faults disk.old) }
-    ensures in_use { IfOk result (λ s. (s.sup.clean ≡ 1 → ⊥) → D.read_faults disk.new ≡ D.read_faults disk.old) }
-    ensures in_use_fault { IsTrue D.tells → ((super_of (D.now disk.old 0) (D.pages disk.old)).clean ≡ 1 → ⊥)
-        → IfErr result (λ e. IsOnlyFault (D.read_faults disk.old) (D.read_faults disk.new) e) }
+    ensures counted { IfErr result (λ e. IsOnlyFault (D.read_faults disk.old) (D.read_faults disk.new) e) }
+    ensures quiet { OnOk result (D.read_faults disk.new ≡ D.read_faults disk.old) }
     ensures quick_reads { IfOk result (λ s. s.quick ≡ true
         → D.reads disk.new ≤ D.reads disk.old + quick_reads s.sup (map.get s.recovered.chains)) }
     ensures reads { IsTrue D.tells
@@ -76,31 +69,28 @@ fn read_store<D: PageDisk>(alloc: Global, disk: &mut D) -> Result<Store, LoadFau
 }
 
 /// Loads a store by reading page 0 as its super block, then its blobs, and resolving what these say. Where the super
-/// block says that the store is clean and its masks can be read, the blobs are those of the blob-id mask; where the
-/// other two masks aren't what these claim, and in every other case, each page of the metadata region is read. A page
-/// there is a head if it is sound, has sequence 0 and the id of its own place.
+/// block says that the store is clean, and its masks have their types and lengths, the blobs are those of the blob-id
+/// mask; where the other two masks aren't what these claim, and in every other case, each page of the metadata region
+/// is read. A page there is a head if it is sound, has sequence 0 and the id of its own place.
 ///
 /// The device is read and nothing else, and is handed back with a fault: `Super` where the super block fails a test;
 /// `Chain`, `Meta` or `MapsTooLarge` for the first head that shows one, in this order; where none does, of the resolved
 /// metadata `NoParentBlob`, `WritableParent` or `ParentLoop` for the first head that shows one, in this order; where
-/// none does, `Shared` for the least cluster that stands in two slots; `ReadFault` where the device counted one, at a
-/// page that is none of a mask.
+/// none does, `Shared` for the least cluster that stands in two slots; `ReadFault` wherever a read failed, be it that of
+/// a mask.
 ///
 /// A device that doesn't give a page alike whenever it is read may give a page to two chains. The later chain then has
 /// the fault `Loop`.
 pub fn load<D: PageDisk>(alloc: Global, disk: D) -> Result<Loaded<D>, (D, LoadFault)>
-    // What is loaded is what the heads of the image say, and only an accepted one is loaded. Where a read of a mask has
-    // failed, they are those of a scan.
+    // What is loaded is what the heads of the image say, and only an accepted one is loaded.
     ensures super_block { IsTrue D.tells → IfOk result (λ l. l.sup ≡ super_of (D.now disk 0) (D.pages disk)) }
     ensures found { IsTrue D.tells → IfOk result
-        (λ l. IsReadBy (AreUsed (D.read_faults disk) (D.read_faults l.disk) l.sup (D.now disk)) l.quick l.sup
-        (D.now disk) (base_of l.metas l.marked) (map.get l.chains)) }
-    ensures accepted { IsTrue D.tells → IfOk result
-        (λ l. AcceptedBy (AreUsed (D.read_faults disk) (D.read_faults l.disk)) (D.pages disk) (D.now disk)) }
+        (λ l. IsReadBy l.quick l.sup (D.now disk) (base_of l.metas l.marked) (map.get l.chains)) }
+    ensures accepted { IsTrue D.tells → OnOk result (IsAccepted (D.pages disk) (D.now disk)) }
 
-    // The masks are trusted wherever they can be, unless a read has failed.
-    ensures quick { IsTrue D.tells → IfOk result (λ l. (Rose (D.read_faults disk) (D.read_faults l.disk) → ⊥)
-        → (l.quick ≡ true) ↔ ((masks : Masks) × IsQuick l.sup masks (D.now disk))) }
+    // The masks are trusted wherever they can be.
+    ensures quick { IsTrue D.tells
+        → IfOk result (λ l. (l.quick ≡ true) ↔ ((masks : Masks) × IsQuick l.sup masks (D.now disk))) }
 
     // Where no head stands beside the blob-id mask, what is loaded is what a scan says.
     ensures says { IsTrue D.tells → IfOk result (λ l. HasNoHeadBesideMask l.sup (D.now disk)
@@ -115,22 +105,13 @@ pub fn load<D: PageDisk>(alloc: Global, disk: D) -> Result<Loaded<D>, (D, LoadFa
     ensures inside { IfOk result (λ l. l.sup.md_start + l.sup.md_len ≤ D.pages l.disk) }
 
     // A fault is that of the image, and an accepted image has none: its device is loaded, or a read or memory fails.
-    ensures cause { IsTrue D.tells → IfErr result
-        (λ e. IsFaultBy (AreUsed (D.read_faults disk) (D.read_faults e.0)) (D.pages disk) (D.now disk) e.1) }
+    ensures cause { IsTrue D.tells → IfErr result (λ e. IsFaultOf (D.pages disk) (D.now disk) e.1) }
     ensures refused { IsTrue D.tells → IfErr result
-        (λ e. IsImageFault e.1 → IsAccepted (D.pages disk) (D.now disk)
-        → (Rose (D.read_faults disk) (D.read_faults e.0) → ⊥) → ⊥) }
-    ensures refused_either { IsTrue D.tells → IfErr result
-        (λ e. IsImageFault e.1 → IsAccepted (D.pages disk) (D.now disk)
-        → IsAcceptedByScan (D.pages disk) (D.now disk) → ⊥) }
+        (λ e. IsImageFault e.1 → IsAccepted (D.pages disk) (D.now disk) → ⊥) }
 
-    // A read fails where that is the answer, and in no other case but at the masks of a clean store, which is scanned
-    // then.
-    ensures counted { IfErr result (λ e. IsFaultCounted (D.read_faults disk) (D.read_faults e.0) e.1) }
-    ensures quiet { IfOk result (λ l. l.quick ≡ true → D.read_faults l.disk ≡ D.read_faults disk) }
-    ensures in_use { IfOk result (λ l. (l.sup.clean ≡ 1 → ⊥) → D.read_faults l.disk ≡ D.read_faults disk) }
-    ensures in_use_fault { IsTrue D.tells → ((super_of (D.now disk 0) (D.pages disk)).clean ≡ 1 → ⊥)
-        → IfErr result (λ e. IsOnlyFault (D.read_faults disk) (D.read_faults e.0) e.1) }
+    // A read fails where that is the answer, and in no other case: none where a store is loaded or refused.
+    ensures no_fault { IfOk result (λ l. D.read_faults l.disk ≡ D.read_faults disk) }
+    ensures counted { IfErr result (λ e. IsOnlyFault (D.read_faults disk) (D.read_faults e.0) e.1) }
 
     // By the masks, only they and the used metadata pages are read; and where the device tells, never more than this.
     ensures quick_reads { IfOk result (λ l. l.quick ≡ true

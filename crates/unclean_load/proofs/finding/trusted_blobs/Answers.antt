@@ -1,11 +1,10 @@
 use Rattle.std.proofs.Common.{◌≡◌, rules, refl}
 use Rattle.std.specs.FinMap as map
 use Rattle.clean_stop.specs.Masks.{SaysMasks}
-use Rattle.store_model.specs.Regions.{look_of, region_of}
-use Rattle.unclean_load.specs.Quick.{AreHeads, IsFaultFound}
-use Rattle.unclean_load.specs.Reading.{IsFaultCounted}
-use Rattle.unclean_load.proofs.FoundBlobs.{counted_since, fault_by_masks, not_by_masks, pages_by_masks, pages_uncounted}
-use Rattle.unclean_load.proofs.FoundBlobs.{read_by_masks}
+use Rattle.unclean_load.specs.Quick.{IsFaultFound}
+use Rattle.unclean_load.specs.Reading.{IsOnlyFault}
+use Rattle.unclean_load.proofs.FoundBlobs.{counted_behind, fault_by_masks, not_by_masks, pages_by_masks}
+use Rattle.unclean_load.proofs.FoundBlobs.{pages_uncounted, read_by_masks, unread_found}
 use Rattle.unclean_load.proofs.finding.trusted_blobs.Goals as goal
 
 pub blobs_on-requires-clause-fits : goal.blobs_on-requires-clause-fits
@@ -17,6 +16,16 @@ are_claimed-requires-clause-pages g c = (rw c.in-Some.is at c.in_ok-masks.ensure
 pub are_claimed-requires-clause-clusters : goal.are_claimed-requires-clause-clusters
 are_claimed-requires-clause-clusters g c = (rw c.in-Some.is at c.in_ok-masks.ensures.fit).clusters
 
+pub returns-in_err-masks-clause-fault : goal.returns-in_err-masks-clause-fault
+returns-in_err-masks-clause-fault g c =
+    let d = g.D.PageDisk in
+    let s = c.args.sup.now in
+    let why = c.in_err-masks.field-0.0 in
+    λ told.
+    let x : IsFaultFound s (d.now c.args.disk.now) why =
+    unread_found s (d.now c.args.disk.now) why c.in_err-masks.ensures.fault in
+    search rules
+
 pub returns-in_err-blobs-clause-fault : goal.returns-in_err-blobs-clause-fault
 returns-in_err-blobs-clause-fault g c =
     let d = g.D.PageDisk in
@@ -27,8 +36,7 @@ returns-in_err-blobs-clause-fault g c =
     λ told.
     let says : SaysMasks s masks (d.now c.args.disk.now) =
     (rw c.in-Some.is at c.in_ok-masks.ensures.says) told in
-    let x : IsFaultFound (AreHeads s (d.now c.args.disk.now)) (look_of (region_of s) (d.now c.args.disk.now))
-    (region_of s) why =
+    let x : IsFaultFound s (d.now c.args.disk.now) why =
     fault_by_masks d s masks c.args.disk.now c.read_masks.new.disk (c.read_masks.ensures.same.now told) clean says why
     (c.in_err-blobs.ensures.fault told) in
     search rules
@@ -45,8 +53,7 @@ returns-in_err-claimed-clause-fault g c =
     let says : SaysMasks s masks (d.now c.args.disk.now) =
     (rw c.in-Some.is at c.in_ok-masks.ensures.says) told in
     let fit = rw c.in-Some.is at c.in_ok-masks.ensures.fit in
-    let x : IsFaultFound (AreHeads s (d.now c.args.disk.now)) (look_of (region_of s) (d.now c.args.disk.now))
-    (region_of s) why =
+    let x : IsFaultFound s (d.now c.args.disk.now) why =
     pages_by_masks d s masks c.args.disk.now c.read_masks.new.disk (c.read_masks.ensures.same.now told) clean says fit
     (map.get b.metas) (map.get b.chains) (c.in_ok-blobs.ensures.found told) why c.in_err-claimed.ensures.fault in
     search rules
@@ -55,18 +62,18 @@ pub returns-in_err-blobs-clause-counted : goal.returns-in_err-blobs-clause-count
 returns-in_err-blobs-clause-counted g c =
     let d = g.D.PageDisk in
     let why = c.in_err-blobs.field-0.0 in
-    let x : IsFaultCounted (d.read_faults c.args.disk.now) (d.read_faults c.blobs_on.new.disk) why =
-    counted_since (d.read_faults c.args.disk.now) (d.read_faults c.read_masks.new.disk)
-    (d.read_faults c.blobs_on.new.disk) why c.read_masks.ensures.same.read_faults c.in_err-blobs.ensures.counted in
+    let x : IsOnlyFault (d.read_faults c.args.disk.now) (d.read_faults c.blobs_on.new.disk) why =
+    counted_behind (d.read_faults c.args.disk.now) (d.read_faults c.read_masks.new.disk)
+    (d.read_faults c.blobs_on.new.disk) why c.in_ok-masks.ensures.quiet c.in_err-blobs.ensures.counted in
     search rules
 
 pub returns-in_err-claimed-clause-counted : goal.returns-in_err-claimed-clause-counted
 returns-in_err-claimed-clause-counted g c =
     let d = g.D.PageDisk in
     let why = c.in_err-claimed.field-0.0 in
-    let x : IsFaultCounted (d.read_faults c.args.disk.now) (d.read_faults c.blobs_on.new.disk) why =
-    counted_since (d.read_faults c.args.disk.now) (d.read_faults c.read_masks.new.disk)
-    (d.read_faults c.blobs_on.new.disk) why c.read_masks.ensures.same.read_faults
+    let x : IsOnlyFault (d.read_faults c.args.disk.now) (d.read_faults c.blobs_on.new.disk) why =
+    counted_behind (d.read_faults c.args.disk.now) (d.read_faults c.read_masks.new.disk)
+    (d.read_faults c.blobs_on.new.disk) why c.in_ok-masks.ensures.quiet
     (pages_uncounted _ (d.read_faults c.read_masks.new.disk) (d.read_faults c.blobs_on.new.disk) why
     c.in_ok-blobs.ensures.quiet c.in_err-claimed.ensures.fault) in
     search rules
@@ -88,8 +95,8 @@ returns-then-claimed-clause-found g c =
 
 pub returns-in_default-clause-none : goal.returns-in_default-clause-none
 returns-in_default-clause-none g c =
-    λ told _ none m quick.
-    (rw c.in_default.is at c.in_ok-masks.ensures.none) told refl none m quick.says
+    λ told _ m quick.
+    (rw c.in_default.is at c.in_ok-masks.ensures.none) told refl m quick.says
 
 pub returns-clause-none : goal.returns-clause-none
 returns-clause-none g c =
@@ -99,7 +106,7 @@ returns-clause-none g c =
     let masks = c.in-Some.masks in
     let b = c.in_ok-blobs.blobs in
     let clean : s.clean ≡ 1 = search rules in
-    λ told _ _ m quick.
+    λ told _ m quick.
     let says : SaysMasks s masks image = (rw c.in-Some.is at c.in_ok-masks.ensures.says) told in
     let fit = rw c.in-Some.is at c.in_ok-masks.ensures.fit in
     not_by_masks d s masks c.args.disk.now c.read_masks.new.disk (c.read_masks.ensures.same.now told) clean says fit

@@ -1,25 +1,17 @@
 use Rattle.std.specs.FinMap as map
 use Rattle.running_store.specs.Recovered.{base_of}
 use Rattle.unclean_load.proofs.LoadOutcome.{holds_metadata}
-use Rattle.unclean_load.proofs.Quick.{goes_by_masks, said_by_scan}
-use Rattle.unclean_load.proofs.UsedHeads.{not_either, not_refused}
+use Rattle.unclean_load.proofs.Quick.{goes_by_masks, one_heads, said_by_scan}
+use Rattle.unclean_load.proofs.Refusing.{refused}
 use Rattle.unclean_load.proofs.loading.load.Goals as goal
 
 pub returns-in-Err-clause-refused : goal.returns-in-Err-clause-refused
 returns-in-Err-clause-refused g c =
     let d = g.D.PageDisk in
-    let disk = c.args.disk in
-    λ told is accepted none. not_refused (d.pages disk) (d.now disk) (d.read_faults disk)
-    (d.read_faults c.read_store.new.disk) c.unloaded_masks_are_read.ensures.one c.in-Err.fault is
-    (c.in-Err.ensures.fault told) accepted none
-
-pub returns-in-Err-clause-refused_either : goal.returns-in-Err-clause-refused_either
-returns-in-Err-clause-refused_either g c =
-    let d = g.D.PageDisk in
-    let disk = c.args.disk in
-    λ told is accepted by_scan. not_either (d.pages disk) (d.now disk) (d.read_faults disk)
-    (d.read_faults c.read_store.new.disk) c.unloaded_masks_are_read.ensures.one c.in-Err.fault is
-    (c.in-Err.ensures.fault told) accepted by_scan
+    let image = d.now c.args.disk in
+    λ told is accepted. refused (d.pages c.args.disk) image
+    (λ s p q are too. one_heads c.unloaded_masks_are_read.ensures.one s image p q are too) accepted c.in-Err.fault is
+    (c.in-Err.ensures.fault told)
 
 pub returns-clause-accepted : goal.returns-clause-accepted
 returns-clause-accepted g c =
@@ -31,7 +23,7 @@ returns-clause-accepted g c =
       sup = s.sup;
       super_at = c.in-Ok.ensures.super_block told;
       heads = x.heads;
-      are = x.are_used;
+      are = x.are;
       loads = record {
         metas = base_of r.metas r.marked;
         chains = map.get r.chains;
@@ -46,18 +38,16 @@ returns-clause-quick g c =
     let d = g.D.PageDisk in
     let s = c.in-Ok.store in
     let r = s.recovered in
-    λ told none. goes_by_masks c.unloaded_masks_are_read.ensures.one s.sup (d.now c.args.disk)
-    (d.read_faults c.args.disk) (d.read_faults c.read_store.new.disk) s.quick (base_of r.metas r.marked)
-    (map.get r.chains) (c.in-Ok.ensures.found told) none
+    λ told. goes_by_masks s.sup (d.now c.args.disk) s.quick (base_of r.metas r.marked) (map.get r.chains)
+    (c.in-Ok.ensures.found told)
 
 pub returns-clause-says : goal.returns-clause-says
 returns-clause-says g c =
     let d = g.D.PageDisk in
     let s = c.in-Ok.store in
     let r = s.recovered in
-    λ told none. said_by_scan c.unloaded_masks_are_read.ensures.one s.sup (d.now c.args.disk)
-    (d.read_faults c.args.disk) (d.read_faults c.read_store.new.disk) s.quick (base_of r.metas r.marked)
-    (map.get r.chains) (c.in-Ok.ensures.found told) none
+    λ told none. said_by_scan s.sup (d.now c.args.disk) s.quick (base_of r.metas r.marked) (map.get r.chains)
+    (c.in-Ok.ensures.found told) none
 
 pub returns-clause-holds : goal.returns-clause-holds
 returns-clause-holds g c =

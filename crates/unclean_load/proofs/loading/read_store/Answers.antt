@@ -1,17 +1,15 @@
-use Rattle.std.proofs.Common.{◌≡◌, ℕ, rules, sym, ap, subst, ◌∙◌, arith}
+use Rattle.std.proofs.Common.{◌≡◌, rules, sym, ap, subst, ◌∙◌, arith}
 use Rattle.std.specs.FinMap as map
-use Rattle.super_block.specs.declared.page.Super.{Super}
 use Rattle.store_model.specs.Maps.{Metas, Chains}
 use Rattle.running_store.specs.Recovered.{IsRecovered, base_of}
-use Rattle.unclean_load.specs.Accepted.{IsFaultBy}
-use Rattle.unclean_load.specs.Quick.{AreUsed, IsReadBy}
-use Rattle.unclean_load.specs.Reading.{IsFaultCounted, IsOnlyFault}
+use Rattle.unclean_load.specs.Accepted.{IsFaultOf}
+use Rattle.unclean_load.specs.Quick.{IsReadBy}
+use Rattle.unclean_load.specs.Reading.{IsOnlyFault}
 use Rattle.unclean_load.specs.Reads.{pages_together}
-use Rattle.unclean_load.proofs.FoundBlobs.{counted_since}
+use Rattle.unclean_load.proofs.BehindSuper.{fault_first, read_first, reads_behind, recovery_only, super_fails}
+use Rattle.unclean_load.proofs.FoundBlobs.{counted_behind}
 use Rattle.unclean_load.proofs.LoadOutcome.{heads_fail, recovery_fails}
 use Rattle.unclean_load.proofs.Recovery.{base_read}
-use Rattle.unclean_load.proofs.UsedHeads.{fault_first, read_first, reads_behind, recovery_counted, recovery_only}
-use Rattle.unclean_load.proofs.UsedHeads.{super_fails}
 use Rattle.unclean_load.proofs.loading.read_store.Goals as goal
 
 pub returns-clause-found : goal.returns-clause-found
@@ -20,22 +18,14 @@ returns-clause-found g c =
     let old = c.args.disk.now in
     let s = c.in_ok-sup.sup in
     let f = c.in_ok-found.found in
-    let new = c.find_blobs.new.disk in
     let r = c.in_ok-recovered.recovered in
     let x = c.in_ok-recovered.ensures in
     let base : base_of r.metas r.marked ≡ map.get f.blobs.metas =
     base_read s (map.get f.blobs.metas) (map.get r.chains) r.metas r.removed r.marked r.repairs r.masks x.recovered in
-    λ told. subst
-    (λ (m : Metas).
-    IsReadBy (AreUsed (d.read_faults old) (d.read_faults new) s (d.now old)) f.quick s (d.now old) m (map.get r.chains))
-    (sym base)
-    (subst
-    (λ (l : Chains).
-    IsReadBy (AreUsed (d.read_faults old) (d.read_faults new) s (d.now old)) f.quick s (d.now old)
-    (map.get f.blobs.metas) l)
-    (ap map.get (sym x.chains))
-    (read_first d old c.super_on.new.disk new c.in_ok-sup.ensures.quiet (c.in_ok-sup.ensures.same.now told) s f.quick
-    (map.get f.blobs.metas) (map.get f.blobs.chains) (c.in_ok-found.ensures.found told)))
+    λ told. subst (λ (m : Metas). IsReadBy f.quick s (d.now old) m (map.get r.chains)) (sym base)
+    (subst (λ (l : Chains). IsReadBy f.quick s (d.now old) (map.get f.blobs.metas) l) (ap map.get (sym x.chains))
+    (read_first d old c.super_on.new.disk (c.in_ok-sup.ensures.same.now told) s f.quick (map.get f.blobs.metas)
+    (map.get f.blobs.chains) (c.in_ok-found.ensures.found told)))
 
 pub returns-clause-recovered : goal.returns-clause-recovered
 returns-clause-recovered g c =
@@ -52,12 +42,10 @@ returns-in_err-found-clause-fault g c =
     let s = c.in_ok-sup.sup in
     let why = c.in_err-found.field-0.0 in
     let old = c.args.disk.now in
-    let new = c.find_blobs.new.disk in
     λ told.
-    let x : IsFaultBy (AreUsed (d.read_faults old) (d.read_faults new)) (d.pages old) (d.now old) why =
-    heads_fail (AreUsed (d.read_faults old) (d.read_faults new)) (d.pages old) (d.now old) s
-    (c.in_ok-sup.ensures.found told) why
-    (fault_first d old c.super_on.new.disk new c.in_ok-sup.ensures.quiet (c.in_ok-sup.ensures.same.now told) s why
+    let x : IsFaultOf (d.pages old) (d.now old) why =
+    heads_fail (d.pages old) (d.now old) s (c.in_ok-sup.ensures.found told) why
+    (fault_first d old c.super_on.new.disk (c.in_ok-sup.ensures.same.now told) s why
     (c.in_err-found.ensures.fault told)) in
     search rules
 
@@ -68,15 +56,13 @@ returns-in_err-recovered-clause-fault g c =
     let f = c.in_ok-found.found in
     let why = c.in_err-recovered.field-0.0 in
     let old = c.args.disk.now in
-    let new = c.find_blobs.new.disk in
     λ told.
     let read =
-    read_first d old c.super_on.new.disk new c.in_ok-sup.ensures.quiet (c.in_ok-sup.ensures.same.now told) s f.quick
-    (map.get f.blobs.metas) (map.get f.blobs.chains) (c.in_ok-found.ensures.found told) in
-    let x : IsFaultBy (AreUsed (d.read_faults old) (d.read_faults new)) (d.pages old) (d.now old) why =
-    recovery_fails (AreUsed (d.read_faults old) (d.read_faults new)) (d.pages old) (d.now old) s
-    (c.in_ok-sup.ensures.found told) read.heads read.are_used (map.get f.blobs.metas) (map.get f.blobs.chains)
-    read.whole why c.in_err-recovered.ensures.fault in
+    read_first d old c.super_on.new.disk (c.in_ok-sup.ensures.same.now told) s f.quick (map.get f.blobs.metas)
+    (map.get f.blobs.chains) (c.in_ok-found.ensures.found told) in
+    let x : IsFaultOf (d.pages old) (d.now old) why =
+    recovery_fails (d.pages old) (d.now old) s (c.in_ok-sup.ensures.found told) read.heads read.are
+    (map.get f.blobs.metas) (map.get f.blobs.chains) read.whole why c.in_err-recovered.ensures.fault in
     search rules
 
 pub returns-clause-reads : goal.returns-clause-reads
@@ -115,28 +101,17 @@ returns-in_err-sup-clause-fault g c =
     let old = c.args.disk.now in
     let why = c.in_err-sup.field-0.0 in
     λ told.
-    let x :
-    IsFaultBy (AreUsed (d.read_faults old) (d.read_faults c.super_on.new.disk)) (d.pages old) (d.now old) why =
-    super_fails (AreUsed (d.read_faults old) (d.read_faults c.super_on.new.disk)) (d.pages old) (d.now old) why
-    (c.in_err-sup.ensures.fault told) in
-    search rules
-
-pub returns-in_err-sup-clause-counted : goal.returns-in_err-sup-clause-counted
-returns-in_err-sup-clause-counted g c =
-    let d = g.D.PageDisk in
-    let why = c.in_err-sup.field-0.0 in
-    let x : IsFaultCounted (d.read_faults c.args.disk.now) (d.read_faults c.super_on.new.disk) why =
-    counted_since (d.read_faults c.args.disk.now) (d.read_faults c.args.disk.now) (d.read_faults c.super_on.new.disk)
-    why (omega arith) c.in_err-sup.ensures.counted in
+    let x : IsFaultOf (d.pages old) (d.now old) why =
+    super_fails (d.pages old) (d.now old) why (c.in_err-sup.ensures.fault told) in
     search rules
 
 pub returns-in_err-found-clause-counted : goal.returns-in_err-found-clause-counted
 returns-in_err-found-clause-counted g c =
     let d = g.D.PageDisk in
     let why = c.in_err-found.field-0.0 in
-    let x : IsFaultCounted (d.read_faults c.args.disk.now) (d.read_faults c.find_blobs.new.disk) why =
-    subst (λ (n : ℕ). IsFaultCounted n (d.read_faults c.find_blobs.new.disk) why) c.in_ok-sup.ensures.quiet
-    c.in_err-found.ensures.counted in
+    let x : IsOnlyFault (d.read_faults c.args.disk.now) (d.read_faults c.find_blobs.new.disk) why =
+    counted_behind (d.read_faults c.args.disk.now) (d.read_faults c.super_on.new.disk)
+    (d.read_faults c.find_blobs.new.disk) why c.in_ok-sup.ensures.quiet c.in_err-found.ensures.counted in
     search rules
 
 pub returns-in_err-recovered-clause-counted : goal.returns-in_err-recovered-clause-counted
@@ -144,38 +119,11 @@ returns-in_err-recovered-clause-counted g c =
     let d = g.D.PageDisk in
     let f = c.in_ok-found.found in
     let why = c.in_err-recovered.field-0.0 in
-    let x : IsFaultCounted (d.read_faults c.args.disk.now) (d.read_faults c.find_blobs.new.disk) why =
-    recovery_counted c.in_ok-sup.sup.md_len (map.get f.blobs.metas) (map.get f.blobs.chains)
-    (d.read_faults c.args.disk.now) (d.read_faults c.find_blobs.new.disk) why c.in_err-recovered.ensures.fault in
-    search rules
-
-pub returns-in_err-found-clause-in_use_fault : goal.returns-in_err-found-clause-in_use_fault
-returns-in_err-found-clause-in_use_fault g c =
-    let d = g.D.PageDisk in
-    let why = c.in_err-found.field-0.0 in
-    λ told dirty.
-    let is = ap (λ (s : Super). s.clean) (c.in_ok-sup.ensures.found told).is in
-    let x : IsOnlyFault (d.read_faults c.args.disk.now) (d.read_faults c.find_blobs.new.disk) why =
-    subst (λ (n : ℕ). IsOnlyFault n (d.read_faults c.find_blobs.new.disk) why) c.in_ok-sup.ensures.quiet
-    (c.in_err-found.ensures.in_use_fault (λ e. dirty (sym is ∙ e))) in
-    search rules
-
-pub returns-in_err-recovered-clause-in_use_fault : goal.returns-in_err-recovered-clause-in_use_fault
-returns-in_err-recovered-clause-in_use_fault g c =
-    let d = g.D.PageDisk in
-    let f = c.in_ok-found.found in
-    let why = c.in_err-recovered.field-0.0 in
-    λ told dirty.
-    let is = ap (λ (s : Super). s.clean) (c.in_ok-sup.ensures.found told).is in
     let x : IsOnlyFault (d.read_faults c.args.disk.now) (d.read_faults c.find_blobs.new.disk) why =
     recovery_only c.in_ok-sup.sup.md_len (map.get f.blobs.metas) (map.get f.blobs.chains)
     (d.read_faults c.args.disk.now) (d.read_faults c.find_blobs.new.disk)
-    (c.in_ok-found.ensures.in_use (λ e. dirty (sym is ∙ e)) ∙ c.in_ok-sup.ensures.quiet) why
-    c.in_err-recovered.ensures.fault in
+    (c.in_ok-found.ensures.quiet ∙ c.in_ok-sup.ensures.quiet) why c.in_err-recovered.ensures.fault in
     search rules
 
-pub returns-clause-in_use : goal.returns-clause-in_use
-returns-clause-in_use g c = λ dirty. c.in_ok-found.ensures.in_use dirty ∙ c.in_ok-sup.ensures.quiet
-
 pub returns-clause-quiet : goal.returns-clause-quiet
-returns-clause-quiet g c = λ is. c.in_ok-found.ensures.quiet is ∙ c.in_ok-sup.ensures.quiet
+returns-clause-quiet g c = c.in_ok-found.ensures.quiet ∙ c.in_ok-sup.ensures.quiet
