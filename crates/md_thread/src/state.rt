@@ -82,6 +82,8 @@ impl MdState {
     ghost use Rattle.md_thread.specs.Turns.{ServiceMade};
     ghost use Rattle.metadata_turns.specs.JobTurns.{TurnsJob};
     ghost use Rattle.running_store.specs.StoreView.{rows_of, state_of};
+    ghost use Rattle.running_store.specs.TurnMade.{TurnMade};
+    ghost use Rattle.store_model.specs.Cases as kind;
     ghost use Rattle.store_model.specs.Filling.{IsFilledFor};
     ghost use Rattle.store_model.specs.Repairing.{IsRepaired};
     ghost use Rattle.volume_model.specs.declared.reply.Msg.{Msg as AMsg};
@@ -176,6 +178,11 @@ impl MdState {
         // A running job makes its next turn, and no message is served.
         ensures job { IsSome plant.old.at.job → (result ≡ Moved) × TurnsJob D.PageDisk plant.old.at plant.new.at
             × IsHeldOn plant.new.at.rows self.old self.new.held × (self.new.waiting ≡ self.old.waiting) }
+        // Where it holds no fill and the fill's row is used, as behind a takeover amid a fill, that row's use ends.
+        ensures closes { plant.old.at.job ≡ None → self.old.fill ≡ None
+            → is_stage (rows_of plant.old.at.rows fill_row) fill_row ≢ Over
+            → (result ≡ Moved) × TurnMade D.PageDisk plant.old.at plant.new.at kind.ends_fill
+            × (self.new ≡ record self.old { found_none = false; next = self.new.next }) }
         // Where no job runs and no fill goes on, the message that comes next is served,
         ensures message { plant.old.at.job ≡ None → is_stage (rows_of plant.old.at.rows fill_row) fill_row ≡ Over
             → self.old.fill ≡ None → (msg : AMsg) → ComesNext self.old msg → msg.channel < 16

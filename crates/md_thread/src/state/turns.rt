@@ -22,7 +22,9 @@ impl MdState {
     ghost use Rattle.running_store.specs.Requests.{IsPostedBy};
     ghost use Rattle.running_store.specs.Stages.{is_stage};
     ghost use Rattle.running_store.specs.StoreView.{rows_of, state_of};
+    ghost use Rattle.running_store.specs.TurnMade.{TurnMade};
     ghost use Rattle.running_store.specs.declared.rows.RowStage.TheVariants.{Over};
+    ghost use Rattle.store_model.specs.Cases as kind;
     ghost use Rattle.store_model.specs.Filling.{IsFilledFor};
     ghost use Rattle.store_model.specs.Repairing.{IsRepaired};
     ghost use Rattle.store_model.specs.Rows.{fill_row, Posted};
@@ -50,6 +52,10 @@ impl MdState {
             → result ≡ Idle }
         ensures job { IsSome plant.old.at.job → (result ≡ Moved) × TurnsJob D.PageDisk plant.old.at plant.new.at
             × IsHeldOn plant.new.at.rows self.old self.new.held × (self.new.waiting ≡ self.old.waiting) }
+        ensures closes { plant.old.at.job ≡ None → self.old.fill ≡ None
+            → is_stage (rows_of plant.old.at.rows fill_row) fill_row ≢ Over
+            → (result ≡ Moved) × TurnMade D.PageDisk plant.old.at plant.new.at kind.ends_fill
+            × (self.new ≡ self.old) }
         ensures message { plant.old.at.job ≡ None → is_stage (rows_of plant.old.at.rows fill_row) fill_row ≡ Over
             → self.old.fill ≡ None → (msg : AMsg) → ComesNext self.old msg → msg.channel < 16
             → (rows_of plant.old.at.rows msg.channel).stage ≡ Posted msg.serial

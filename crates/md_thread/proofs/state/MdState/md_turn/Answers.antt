@@ -58,3 +58,12 @@ returns-clause-nothing g c = λ none over held fill waits.
       ap (λ (s : MetadataState). record s { found_none = false; next = c.next_after-self-inside.result })
           (c.self.view_is ∙ left.2),
     )
+
+pub returns-clause-closes : goal.returns-clause-closes
+returns-clause-closes g c = λ none fill in_hand.
+    let made = c.turn_due-turn.ensures.closes none fill in_hand in (
+      made.0,
+      made.1,
+      ap (λ (s : MetadataState). record s { found_none = false; next = c.next_after-self-inside.result })
+          (c.self.view_is ∙ made.2),
+    )

@@ -1,4 +1,4 @@
-use Rattle.std.proofs.Common.{◌≡◌, Bool, true, None, Option, sym, ◌∙◌, ap, subst}
+use Rattle.std.proofs.Common.{◌≡◌, Bool, true, None, Option, refl, sym, ◌∙◌, ap, subst}
 use Rattle.std.proofs.lemmas.Bool.{false≢true}
 use Rattle.std.specs.Prelude.{is_some, IsSome}
 use Rattle.store_model.specs.Cases as kind
@@ -70,3 +70,10 @@ returns-then-job_runs-clause-nothing g c = λ none over held fill waits.
 pub returns-then-not-fill_row_is_over-clause-nothing : goal.returns-then-not-fill_row_is_over-clause-nothing
 returns-then-not-fill_row_is_over-clause-nothing g c = λ none over held fill waits.
     absurd (false≢true (sym c.if-not-fill_row_is_over.true ∙ c.fill_row_is_over.ensures.1 over))
+
+pub returns-then-job_runs-clause-closes : goal.returns-then-job_runs-clause-closes
+returns-then-job_runs-clause-closes g c = λ none fill in_hand.
+    absurd (runs_none c.job_runs.ensures c.if-job_runs.true none)
+
+pub returns-then-not-fill_row_is_over-clause-closes : goal.returns-then-not-fill_row_is_over-clause-closes
+returns-then-not-fill_row_is_over-clause-closes g c = λ none fill in_hand. (refl, c.end_fill.ensures.case, refl)

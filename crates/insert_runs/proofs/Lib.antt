@@ -1,0 +1,4 @@
+pub mod Wanted
+pub mod PutInSlots
+pub mod WantedTurns
+pub mod InsertsOfRuns

@@ -1,0 +1,2 @@
+pub mod InsertRuns
+pub mod InsertLaws
