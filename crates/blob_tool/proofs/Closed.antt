@@ -1,5 +1,5 @@
 -- What the end of a run leaves, or a device that is left alone.
-use Rattle.std.proofs.Common.{◌≡◌, ℕ, Option, None, Some, Bool, IsTrue, refl, subst, sym}
+use Rattle.std.proofs.Common.{ℕ, Option, None, Some, Bool, IsTrue, refl, subst, sym}
 use Rattle.page_disk.specs.Disk.{Telling}
 use Rattle.page_disk.specs.declared.disk.PageDisk.{Ghosts}
 use Rattle.page_disk.proofs.Moments.{started}

@@ -1,5 +1,5 @@
 -- What an image says that a store may leave while it is closed: what the one said from which it comes.
-use Rattle.std.proofs.Common.{◌≡◌, ◌≢◌, ◌⊎◌, ⊎_elim, ℕ, ◌+◌, ◌<◌, ◌≤◌, ◌*◌, Bool, refl, sym, ap, ◌∙◌, subst, inl, inr}
+use Rattle.std.proofs.Common.{◌≡◌, ◌⊎◌, ⊎_elim, ℕ, ◌+◌, ◌<◌, ◌≤◌, ◌*◌, Bool, refl, sym, ap, ◌∙◌, subst}
 use Rattle.std.proofs.Common.{arith}
 use Rattle.std.proofs.Math.Nat.{mul-le-mul_right}
 use Rattle.clean_stop.specs.Masks.{IsMaskPage, MasksFit, StandsApart}
@@ -18,7 +18,7 @@ use Rattle.store_model.proofs.StandsKept.{super_outside}
 use Rattle.store_model.specs.Maps.{Chains, Metas}
 use Rattle.running_store.specs.LoadedWhole.{AreMasks}
 use Rattle.running_store.specs.Running.{super_left}
-use Rattle.blob_tool.specs.Closing.{as_before, Becomes, clean, in_use, kept}
+use Rattle.blob_tool.specs.Closing.{as_before, Becomes, clean, in_use, IsOfClosing, kept}
 
 -- the masks of a store have the lengths that an unload asks of them
 pub masks_fit : (left : Bool) (s : Super) (metas : Metas) (chains : Chains) (masks : Masks)
@@ -61,7 +61,7 @@ some_fixed_page s placed =
 
 module _ (s : Super) (placed : IsPlaced s) (apart : (page : ℕ) → IsMaskPage s page → StandsApart s page) where
   module _ (left : Bool) (masks : Masks) (image other : Image)
-      (others : SameBut (λ page. (page ≡ 0) ⊎ IsMaskPage (super_left left s) page) image other) where
+      (others : SameBut (IsOfClosing (super_left left s)) image other) where
     becomes_store : Becomes (super_left left s) masks image other → HasStore s image → HasStore s other
     becomes_store (as_before same) = store_kept s image other (same 0)
     becomes_store (kept dirty same) = store_kept s image other same
@@ -72,12 +72,16 @@ module _ (s : Super) (placed : IsPlaced s) (apart : (page : ℕ) → IsMaskPage 
     unfolding clusters_of
     stays page lt out = others page (⊎_elim (λ zero. omega (arith, lt, zero)) out)
 
-    -- the store is closed, or may be
-    pub becomes_same : Becomes (super_left left s) masks image other → HasSameStore s image other
-    becomes_same becomes = record {
-      store = becomes_store becomes;
+    -- all else that a store has is as before, once its super block is there
+    pub stays_same : (HasStore s image → HasStore s other) → HasSameStore s image other
+    stays_same store = record {
+      store = store;
       region = λ q low. stays (s.md_start + q) (let ne = super_outside s placed q low in omega (arith, ne))
           (λ mask. (apart (s.md_start + q) mask).no_metadata q low refl);
       behind = λ page le. stays page (let fixed = some_fixed_page s placed in omega (arith, le, fixed))
           (λ mask. let lt = (apart page mask).fixed in omega (arith, le, lt));
     }
+
+    -- the store is closed, or may be
+    pub becomes_same : Becomes (super_left left s) masks image other → HasSameStore s image other
+    becomes_same becomes = stays_same (becomes_store becomes)

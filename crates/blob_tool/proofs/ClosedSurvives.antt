@@ -21,7 +21,7 @@ use Rattle.unclean_load.specs.Accepted.{IsAccepted}
 use Rattle.unclean_load.specs.Quick.{HasNoHeadBesideMask, IsQuick}
 use Rattle.blob_tool.specs.Closing.{Becomes, Closes, Closing, IsCleanWith, LeavesClosing}
 use Rattle.blob_tool.specs.Closing as closing
-use Rattle.blob_tool.specs.Found.{HasSoundImage, ReadsAs}
+use Rattle.blob_tool.specs.Found.{HasSoundImage, IsSoundImage, ReadsAs}
 use Rattle.blob_tool.specs.Surviving.{RunSurvives}
 use Rattle.blob_tool.proofs.ClosedStore.{becomes_same, HasSameStore}
 use Rattle.blob_tool.proofs.RunSurvives as run
@@ -40,8 +40,8 @@ module _ {D : Type 0} (d : Ghosts D) (laws : LoadLaws) (law : IsTrue d.tells →
   survived : StoreSurvives d s (shown (state_of d b.opening)) b.at
   survived = run.survived d laws law b kept_so quick read sound
 
-  accepts : (c : Image) → CanBeLoaded s c → IsMarkedOrOpened s opened c → IsAccepted s.device_pages c
-  accepts = run.accepts d laws law b kept_so quick read sound
+  sound_so : (c : Image) → CanBeLoaded s c → IsMarkedOrOpened s opened c → IsSoundImage s.device_pages c
+  sound_so = run.sound_so d laws law b kept_so quick read sound
 
   loads : (c : Image) → d.images b.at.disk c → CanBeLoaded s c
   loads = run.loads d laws law b kept_so quick read sound
@@ -113,33 +113,38 @@ module _ {D : Type 0} (d : Ghosts D) (laws : LoadLaws) (law : IsTrue d.tells →
         (record { pages = is.whole.pages; clusters = is.whole.clusters; blobs = is.whole.blobs })
         (claims_at c)
 
-    accepted_so : (image c : Image) → d.images b.at.disk image → HasSameStore s image c → Becomes left masks image c
-        → IsAccepted s.device_pages c
-    accepted_so image c held same (closing.as_before stays) = accepts c
+    sound_behind : (image c : Image) → d.images b.at.disk image → HasSameStore s image c → Becomes left masks image c
+        → IsSoundImage s.device_pages c
+    sound_behind image c held same (closing.as_before stays) = sound_so c
         (loaded_same s kept_so.placed image c (same.store (loads image held).store) same.region same.behind
         (loads image held))
         (⊎_elim
         (λ in_use. inl (subst (λ page. (super_of page s.device_pages).clean ≢ 1) (sym (stays 0)) in_use))
         (λ fixed. inr (λ page lt. stays page ∙ fixed page lt))
         (run.way d laws law b kept_so quick read sound image held))
-    accepted_so image c held same (closing.kept dirty stays) = accepts c
+    sound_behind image c held same (closing.kept dirty stays) = sound_so c
         (loaded_same s kept_so.placed image c (same.store (loads image held).store) same.region same.behind
         (loads image held))
         (inl (subst (λ page. (super_of page s.device_pages).clean ≢ 1) (sym stays)
         ((run.images d laws law b kept_so quick read sound).in_use (not_clean dirty) image held)))
-    accepted_so image c held same (closing.in_use is) = accepts c
+    sound_behind image c held same (closing.in_use is) = sound_so c
         (loaded_same s kept_so.placed image c (same.store (loads image held).store) same.region same.behind
         (loads image held))
         (inl (λ one. let zero : 0 ≡ 1 = sym (ap (λ (t : Super). t.clean) is.reads) ∙ one in cc zero))
-    accepted_so image c held same (closing.clean is) =
-        (unloaded_at image c held same is).0
+    sound_behind image c held same (closing.clean is) =
+        let x = unloaded_at image c held same is in
+        let stands = survived.stands runs image held in
+        record {
+          accepted = x.0;
+          no_head = subst (λ (t : Super). HasNoHeadBesideMask t c) (same.store stands.store).same x.2;
+        }
 
     pub from_closing : (c : Image) → Closing left masks (d.images b.at.disk) c
         → run.ComesFrom d laws law b kept_so quick read sound c
     from_closing c x =
         let same = becomes_same s kept_so.placed (laws.apart s kept_so.faultless) b.at.clean masks x.image c x.others
         x.becomes in
-        record { image = x.image; was = x.was; same = same; accepted = accepted_so x.image c x.was same x.becomes }
+        record { image = x.image; was = x.was; same = same; sound_too = sound_behind x.image c x.was same x.becomes }
 
 -- What a crash may leave of a run, however it ended.
 module _ {D : Type 0} (d : Ghosts D) (laws : LoadLaws) (law : IsTrue d.tells → Telling d.now d.images d.since d.clock)

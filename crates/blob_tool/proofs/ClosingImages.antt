@@ -1,15 +1,15 @@
 -- What an unload may leave is what closing a store may, and so is what marking it first may.
-use Rattle.std.proofs.Common.{◌≡◌, ◌≢◌, ◌⊎◌, ◌∙◌, ℕ, List, refl, sym, ap, subst, inl, inr, arith, IsTrue}
-use Rattle.clean_stop.specs.Masks.{HasMasks, IsMaskPage, StandsApart}
+use Rattle.std.proofs.Common.{◌≡◌, ◌≢◌, ◌∙◌, ℕ, List, refl, sym, ap, subst, inl, inr, arith}
+use Rattle.clean_stop.specs.Masks.{IsMaskPage, StandsApart}
 use Rattle.clean_stop.specs.Stopping.{with_clean, IsSuperPage, IsUnloaded, IsUnloading}
-use Rattle.page_disk.specs.Disk.{Image, Images, Only, with_page}
+use Rattle.page_disk.specs.Disk.{Image, Images, IsSameElsewhere, Only, with_page}
 use Rattle.page_disk.specs.Moments.{IsReplaced}
 use Rattle.page_disk.proofs.Images.{with_page-elsewhere, with_page-here}
 use Rattle.page_runs.specs.Writing.{SameBut}
 use Rattle.super_block.specs.Numbers.{clusters_of}
 use Rattle.super_block.specs.declared.masks.Masks.{Masks}
 use Rattle.super_block.specs.declared.page.Super.{Super}
-use Rattle.blob_tool.specs.Closing.{as_before, Becomes, clean, Closing, in_use, IsCleanWith, kept}
+use Rattle.blob_tool.specs.Closing.{as_before, clean, Closing, in_use, IsCleanWith, IsOfClosing, kept}
 
 module _ (s : Super) (masks : Masks) where
   -- what was read, unloaded
@@ -24,13 +24,20 @@ module _ (s : Super) (masks : Masks) where
     whole = record { pages = x.whole.pages; clusters = x.whole.clusters; blobs = x.whole.blobs };
   }
 
+-- what was read, marked and then unloaded, but for the super block and the masks
+pub marked_stays : (s : Super) (masks : Masks) (old mid other : Image) → IsSameElsewhere 0 old mid
+    → IsUnloaded (with_clean 0 s) masks mid other → SameBut (IsOfClosing s) old other
+unfolding clusters_of
+marked_stays s masks old mid other marked x page out =
+    x.others page out ∙ marked page (λ is. out (inl is))
+
 module _ (s : Super) (masks : Masks) (apart : (page : ℕ) → IsMaskPage s page → StandsApart s page) where
   -- the super block's page is in no mask
   super_stays : (image other : Image) → SameBut (IsMaskPage s) image other → other 0 ≡ image 0
   super_stays image other same = same 0 (λ mask. let lt = (apart 0 mask).behind_super in omega (arith, lt))
 
   also_super : (image other : Image) → SameBut (IsMaskPage s) image other
-      → SameBut (λ page. (page ≡ 0) ⊎ IsMaskPage s page) image other
+      → SameBut (IsOfClosing s) image other
   also_super image other same page out = same page (λ mask. out (inr mask))
 
   -- an unload of a store that isn't clean

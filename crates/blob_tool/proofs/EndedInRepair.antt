@@ -1,5 +1,5 @@
 -- How a run ends with its repairs.
-use Rattle.std.proofs.Common.{◌≡◌, ◌∙◌, ℕ, Bool, List, [], length, Option, Some, None, IsTrue, refl, ap, subst}
+use Rattle.std.proofs.Common.{◌≡◌, ◌∙◌, Bool, List, [], length, Option, Some, None, IsTrue, refl, ap, subst}
 use Rattle.std.specs.FinMap as map
 use Rattle.page_disk.specs.Disk.{Rose, Telling}
 use Rattle.page_disk.specs.declared.disk.PageDisk.{Ghosts}
@@ -31,6 +31,7 @@ module _ {D : Type 0} (d : Ghosts D) (laws : LoadLaws) (law : IsTrue d.tells →
     last = b.at;
     made = ends.made;
     device = refl;
+    pages = kept.pages;
     quiet = refl;
     unlogged = unlogged how ends;
     survives = survives_alone d laws law b kept quick read;

@@ -34,7 +34,7 @@ use Rattle.blob_tool.specs.Found.{HasSoundImage}
 use Rattle.unclean_load.specs.declared.fault.LoadFault.{LoadFault}
 use Rattle.unclean_load.specs.declared.fault.LoadFault.TheVariants as loading
 use Rattle.unclean_load.specs.Accepted.{IsImageFault}
-use Rattle.unclean_load.specs.Reading.{IsFaultCounted}
+use Rattle.unclean_load.specs.Reading.{IsOnlyFault}
 use Rattle.streams.specs.declared.printing.PrintFault.{PrintFault}
 use Rattle.streams.specs.declared.printing.PrintFault.TheVariants as printing
 use Rattle.blob_tool.specs.Statuses.{of_loading, of_run}
@@ -121,17 +121,17 @@ module _ {S : Type 0} (s : source.Ghosts S) (script script_now : S) {D : Type 0}
   -- a store that wasn't loaded
   pub of_a_fault : (fault : LoadFault) → NothingWritten d before out out_now back
       → HasScript s script script_now d k out out_now before back from
-      → IsFaultCounted (d.read_faults before) (d.read_faults back) fault
-      → (IsImageFault fault → IsRefused d before back fault)
+      → IsOnlyFault (d.read_faults before) (d.read_faults back) fault
+      → (IsImageFault fault → d.read_faults back ≡ d.read_faults before → IsRefused d before back fault)
       → Outcome s script script_now d k out out_now before back from schedule (of_loading fault)
   of_a_fault loading.ReadFault stays script counted refused = inr (inl (stays, script, refl, counted))
   of_a_fault loading.Memory stays script counted refused = inr (inl stays)
-  of_a_fault (loading.Super why) stays script counted refused = (stays, script, refused tt)
-  of_a_fault (loading.Chain head why) stays script counted refused = (stays, script, refused tt)
-  of_a_fault (loading.Meta head why) stays script counted refused = (stays, script, refused tt)
-  of_a_fault (loading.MapsTooLarge slots) stays script counted refused = (stays, script, refused tt)
-  of_a_fault (loading.NoParentBlob blob parent) stays script counted refused = (stays, script, refused tt)
-  of_a_fault (loading.WritableParent blob parent) stays script counted refused = (stays, script, refused tt)
-  of_a_fault (loading.ParentLoop blob) stays script counted refused = (stays, script, refused tt)
-  of_a_fault (loading.Shared cluster a b) stays script counted refused = (stays, script, refused tt)
+  of_a_fault (loading.Super why) stays script counted refused = (stays, script, refused tt counted)
+  of_a_fault (loading.Chain head why) stays script counted refused = (stays, script, refused tt counted)
+  of_a_fault (loading.Meta head why) stays script counted refused = (stays, script, refused tt counted)
+  of_a_fault (loading.MapsTooLarge slots) stays script counted refused = (stays, script, refused tt counted)
+  of_a_fault (loading.NoParentBlob blob parent) stays script counted refused = (stays, script, refused tt counted)
+  of_a_fault (loading.WritableParent blob parent) stays script counted refused = (stays, script, refused tt counted)
+  of_a_fault (loading.ParentLoop blob) stays script counted refused = (stays, script, refused tt counted)
+  of_a_fault (loading.Shared cluster a b) stays script counted refused = (stays, script, refused tt counted)
   of_a_fault (loading.NoRoom head has wants) stays script counted refused = absurd counted

@@ -1,11 +1,10 @@
 -- A store as a load finds it.
-use Rattle.std.proofs.Common.{◌≡◌, ◌≢◌, ◌⊎◌, ◌↔◌, ◌∙◌, Bool, false, true, IsTrue, ap, inl, inr, refl, subst, sym}
+use Rattle.std.proofs.Common.{◌≡◌, ◌↔◌, ◌∙◌, false, true, IsTrue, ap, subst, sym}
 use Rattle.std.specs.FinMap as map
-use Rattle.page_disk.specs.Disk.{Image, Rose}
+use Rattle.page_disk.specs.Disk.{Image}
 use Rattle.page_disk.specs.declared.disk.PageDisk as disk
 use Rattle.super_block.specs.Page.{super_of}
 use Rattle.super_block.specs.declared.masks.Masks.{Masks}
-use Rattle.super_block.specs.declared.page.Super.{Super}
 use Rattle.md_chain.specs.Reading.{OnlyRead}
 use Rattle.store_model.specs.Maps.{Chains, Metas}
 use Rattle.store_model.specs.Regions.{look_of, region_of}
@@ -13,12 +12,12 @@ use Rattle.store_model.specs.Scans.{Says}
 use Rattle.running_store.specs.declared.loaded.Loaded.{Loaded}
 use Rattle.running_store.specs.Recovered.{base_of, IsLoadedFrom}
 use Rattle.running_store.specs.Surviving.{HasOneImage, HoldsMetadata}
-use Rattle.unclean_load.specs.Accepted.{AcceptedBy, IsAccepted}
+use Rattle.unclean_load.specs.Accepted.{IsAccepted}
 use Rattle.unclean_load.specs.Heads.{AreWhole, is_listed}
-use Rattle.unclean_load.specs.Quick.{AreListed, AreUsed, HasNoHeadBesideMask, IsQuick, IsReadBy}
+use Rattle.unclean_load.specs.Quick.{AreHeads, AreListed, HasNoHeadBesideMask, IsQuick, IsReadBy}
 use Rattle.unclean_load.specs.declared.heads.Heads.{Heads}
 use Rattle.unclean_load.specs.declared.heads.Heads.TheVariants.{ByScan, Listed}
-use Rattle.blob_tool.specs.Found.{HasSoundImage, IsFound, ReadsAs}
+use Rattle.blob_tool.specs.Found.{HasSoundImage, IsFound, IsSoundImage, ReadsAs}
 
 module _ {D : Type 0} (d : disk.Ghosts D) (before : D) (loaded : Loaded D) (same : OnlyRead d before loaded.disk) where
   abbrev base : Metas
@@ -26,9 +25,6 @@ module _ {D : Type 0} (d : disk.Ghosts D) (before : D) (loaded : Loaded D) (same
 
   abbrev chains : Chains
   chains = map.get loaded.chains
-
-  abbrev Used : Heads → Type 0
-  Used = AreUsed (d.read_faults before) (d.read_faults loaded.disk) loaded.sup (d.now before)
 
   -- a device that was only read has one image still
   still_one : HasOneImage d before → HasOneImage d loaded.disk
@@ -43,27 +39,21 @@ module _ {D : Type 0} (d : disk.Ghosts D) (before : D) (loaded : Loaded D) (same
   -- and that is sound
   still_sound : HasSoundImage d before → HasSoundImage d loaded.disk
   still_sound x =
-      let now = sym (same.now x.one.0) in
       record {
         one = still_one x.one;
-        accepted = subst (λ n. IsAccepted n (d.now loaded.disk)) (sym same.pages)
-            (subst (IsAccepted (d.pages before)) now x.accepted);
-        no_head = subst (λ n. HasNoHeadBesideMask (super_of (d.now loaded.disk 0) n) (d.now loaded.disk))
-            (sym same.pages)
-            (subst (λ (i : Image). HasNoHeadBesideMask (super_of (i 0) (d.pages before)) i) now x.no_head);
+        sound = subst (λ n. IsSoundImage n (d.now loaded.disk)) (sym same.pages)
+            (subst (IsSoundImage (d.pages before)) (sym (same.now x.one.0)) x.sound);
       }
 
   -- a store as a load found it
   pub found_by : (IsTrue d.tells → loaded.sup ≡ super_of (d.now before 0) (d.pages before))
-      → (IsTrue d.tells → IsReadBy Used loaded.quick loaded.sup (d.now before) base chains)
-      → (IsTrue d.tells → (Rose (d.read_faults before) (d.read_faults loaded.disk) → ⊥)
-      → (loaded.quick ≡ true) ↔ ((masks : Masks) × IsQuick loaded.sup masks (d.now before)))
-      → (IsTrue d.tells → AcceptedBy (AreUsed (d.read_faults before) (d.read_faults loaded.disk)) (d.pages before)
-      (d.now before))
+      → (IsTrue d.tells → IsReadBy loaded.quick loaded.sup (d.now before) base chains)
+      → (IsTrue d.tells → (loaded.quick ≡ true) ↔ ((masks : Masks) × IsQuick loaded.sup masks (d.now before)))
+      → (IsTrue d.tells → IsAccepted (d.pages before) (d.now before))
       → (IsTrue d.tells → HasNoHeadBesideMask loaded.sup (d.now before)
       → Says (region_of loaded.sup) base chains (d.now before))
-      → IsLoadedFrom base loaded → IsFound d before loaded
-  found_by super read quick accepted says recovered = record {
+      → IsLoadedFrom base loaded → d.read_faults loaded.disk ≡ d.read_faults before → IsFound d before loaded
+  found_by super read quick accepted says recovered no_fault = record {
     super = super;
     read = read;
     quick = quick;
@@ -71,29 +61,30 @@ module _ {D : Type 0} (d : disk.Ghosts D) (before : D) (loaded : Loaded D) (same
     says = says;
     recovered = recovered;
     same = same;
+    no_fault = no_fault;
     sound = still_sound;
   }
 
   -- by masks, where the load was a quick one
-  by_masks : loaded.quick ≡ true → (heads : Heads) → Used heads → loaded.quick ≡ is_listed heads
+  by_masks : loaded.quick ≡ true → (heads : Heads) → AreHeads loaded.sup (d.now before) heads
+      → loaded.quick ≡ is_listed heads
       → AreWhole (look_of (region_of loaded.sup) (d.now before)) (region_of loaded.sup) heads base chains
       → (masks : Masks) × IsQuick loaded.sup masks (d.now before)
       × AreListed (look_of (region_of loaded.sup) (d.now before)) (region_of loaded.sup) masks.blobs base chains
-  by_masks quick ByScan used is whole = absurd (let bad : true ≡ false = sym quick ∙ is in cc bad)
-  by_masks quick (Listed places) (inl x) is whole = (
+  by_masks quick ByScan x is whole = absurd (let bad : true ≡ false = sym quick ∙ is in cc bad)
+  by_masks quick (Listed places) x is whole = (
     x.0,
     x.1,
     subst (λ p. AreListed (look_of (region_of loaded.sup) (d.now before)) (region_of loaded.sup) p base chains) x.2
         whole,
   )
-  by_masks quick (Listed places) (inr x) is whole = absurd (cc x.1)
 
   -- what the device is read as
   pub read_as : loaded.sup.device_pages ≡ d.pages loaded.disk
       → (IsTrue d.tells → loaded.sup ≡ super_of (d.now before 0) (d.pages before))
       → (IsTrue d.tells → HasNoHeadBesideMask loaded.sup (d.now before)
       → HoldsMetadata loaded.sup base chains (d.now loaded.disk))
-      → (IsTrue d.tells → IsReadBy Used loaded.quick loaded.sup (d.now before) base chains)
+      → (IsTrue d.tells → IsReadBy loaded.quick loaded.sup (d.now before) base chains)
       → ReadsAs d loaded.quick loaded.sup base chains loaded.disk
   read_as device_pages super holds read = record {
     device_pages = device_pages;
@@ -106,5 +97,5 @@ module _ {D : Type 0} (d : disk.Ghosts D) (before : D) (loaded : Loaded D) (same
         subst
         (λ (i : Image). (masks : Masks) × IsQuick loaded.sup masks i
         × AreListed (look_of (region_of loaded.sup) i) (region_of loaded.sup) masks.blobs base chains)
-        (sym (same.now t)) (by_masks quick x.heads x.are_used x.quick_is x.whole);
+        (sym (same.now t)) (by_masks quick x.heads x.are x.quick_is x.whole);
   }

@@ -1,11 +1,10 @@
 -- What a listing came to.
-use Rattle.std.proofs.Common.{◌≡◌, ◌++◌, IsTrue, Result, Ok, Err, OnOk, OnErr, refl, sym, subst}
-use Rattle.page_disk.specs.Disk.{Rose}
+use Rattle.std.proofs.Common.{◌≡◌, refl, sym, subst}
 use Rattle.page_disk.specs.declared.disk.PageDisk as disk
 use Rattle.md_chain.specs.Reading.{OnlyRead}
 use Rattle.streams.specs.declared.sink.Sink as sink
 use Rattle.unclean_load.specs.Accepted.{IsImageFault}
-use Rattle.unclean_load.specs.Reading.{IsFaultCounted}
+use Rattle.unclean_load.specs.Reading.{IsOnlyFault}
 use Rattle.unclean_load.specs.declared.fault.LoadFault.{LoadFault}
 use Rattle.unclean_load.specs.declared.fault.LoadFault.TheVariants as loading
 use Rattle.blob_tool.specs.ListOutcome.{ListEnded}
@@ -17,18 +16,19 @@ use Rattle.blob_tool.specs.declared.status.Status.TheVariants as status
 module _ {D : Type 0} (d : disk.Ghosts D) {K : Type 0} (k : sink.Ghosts K) (out out_now : K) (before back : D) where
   -- a store that wasn't loaded
   pub unlisted : (fault : LoadFault) → NothingWritten d before out out_now back
-      → IsFaultCounted (d.read_faults before) (d.read_faults back) fault
-      → (IsImageFault fault → IsRefused d before back fault) → ListEnded d before back k out out_now (of_loading fault)
+      → IsOnlyFault (d.read_faults before) (d.read_faults back) fault
+      → (IsImageFault fault → d.read_faults back ≡ d.read_faults before → IsRefused d before back fault)
+      → ListEnded d before back k out out_now (of_loading fault)
   unlisted loading.ReadFault stays counted refused = (stays, refl, counted)
   unlisted loading.Memory stays counted refused = stays
-  unlisted (loading.Super why) stays counted refused = (stays, refused tt)
-  unlisted (loading.Chain head why) stays counted refused = (stays, refused tt)
-  unlisted (loading.Meta head why) stays counted refused = (stays, refused tt)
-  unlisted (loading.MapsTooLarge slots) stays counted refused = (stays, refused tt)
-  unlisted (loading.NoParentBlob blob parent) stays counted refused = (stays, refused tt)
-  unlisted (loading.WritableParent blob parent) stays counted refused = (stays, refused tt)
-  unlisted (loading.ParentLoop blob) stays counted refused = (stays, refused tt)
-  unlisted (loading.Shared cluster a b) stays counted refused = (stays, refused tt)
+  unlisted (loading.Super why) stays counted refused = (stays, refused tt counted)
+  unlisted (loading.Chain head why) stays counted refused = (stays, refused tt counted)
+  unlisted (loading.Meta head why) stays counted refused = (stays, refused tt counted)
+  unlisted (loading.MapsTooLarge slots) stays counted refused = (stays, refused tt counted)
+  unlisted (loading.NoParentBlob blob parent) stays counted refused = (stays, refused tt counted)
+  unlisted (loading.WritableParent blob parent) stays counted refused = (stays, refused tt counted)
+  unlisted (loading.ParentLoop blob) stays counted refused = (stays, refused tt counted)
+  unlisted (loading.Shared cluster a b) stays counted refused = (stays, refused tt counted)
   unlisted (loading.NoRoom head has wants) stays counted refused = absurd counted
 
   -- whatever came of it, the device was only read

@@ -9,7 +9,7 @@ use Rattle.page_disk.specs.declared.disk.PageDisk.{Ghosts}
 use Rattle.volume_model.specs.declared.reply.Entry.{Entry}
 use Rattle.metadata_turns.specs.JobTurns.{IsOfJob, TurnsJob}
 use Rattle.repair_runs.specs.RepairLaws.{GoesOnMending, RepairLaws}
-use Rattle.repair_runs.specs.RepairRuns.{marks_left, store_turns_left, IsMending, IsOfInsert, IsOfRepair, RepairRun}
+use Rattle.repair_runs.specs.RepairRuns.{marks_left, IsMending, IsOfInsert, IsOfRepair, RepairRun}
 use Rattle.store_core.specs.StoreInvariant.{opening_script, StoreInvariant}
 use Rattle.running_store.specs.StoreView.{rows_of, state_of, StoreView, WithOpening}
 use Rattle.store_model.specs.Cases.{Kind, Run, the}
@@ -81,16 +81,6 @@ module _ {D : Type 0} (d : Ghosts D) where
     no_job = second.no_job;
   }
 
-  -- before the job's first turn
-  pub mends_nothing : (laws : RepairLaws) (marks : ℕ) (p : StoreView D) → p.stopped ≡ None
-      → IsMending marks (state_of d p) → MendsSoFar marks p p
-  mends_nothing laws marks p runs mending = record {
-    run = laws.none d.tells (state_of d p);
-    unlogged = refl;
-    rows = refl;
-    after = inl (runs, mending);
-  }
-
   module _ (laws : RepairLaws) (b : WithOpening D) (kept : StoreInvariant d b) (marks : ℕ) (p : StoreView D)
       (so_far : MendsSoFar marks p b.at) (job : JobState) (is : b.at.job ≡ Some job) (r : StoreView D)
       (turn : TurnsJob d b.at r) where
@@ -119,10 +109,6 @@ module _ {D : Type 0} (d : Ghosts D) where
         | inr stopped ↦ inr (stopped.0 ∙ ap (λ (log : List Entry). Some (length log)) (sym goes.log), stopped.1)
       ];
     }
-
-    -- fewer turns are left
-    pub fewer_left : store_turns_left (state_of d r) < store_turns_left (state_of d q)
-    fewer_left = goes.fewer
 
   -- the job is done, or the store has stopped
   pub mends : (laws : RepairLaws) (marks : ℕ) (p q : StoreView D) → MendsSoFar marks p q → q.job ≡ None

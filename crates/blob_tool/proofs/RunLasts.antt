@@ -1,5 +1,5 @@
 -- Behind a run that didn't stop one image is left, which is clean.
-use Rattle.std.proofs.Common.{◌≡◌, ℕ, ◌+◌, Bool, true, false, None, refl, sym, ap, subst, ◌∙◌, inl, inr, arith}
+use Rattle.std.proofs.Common.{◌≡◌, ◌+◌, Bool, true, false, None, refl, sym, ap, subst, ◌∙◌, inl, inr, arith}
 use Rattle.std.proofs.Common.{IsTrue}
 use Rattle.std.proofs.Math.Path.{fun_ext}
 use Rattle.std.specs.FinMap as map
@@ -26,7 +26,8 @@ use Rattle.unclean_load.specs.Quick.{AreClaimed, AreListed, HasNoHeadBesideMask,
 use Rattle.blob_tool.specs.Closing.{IsCleanWith, IsClosed}
 use Rattle.blob_tool.specs.Found.{HasSoundImage, ReadsAs}
 use Rattle.blob_tool.specs.Surviving.{IsLasting, IsLeftClean}
-use Rattle.blob_tool.proofs.ClosedStore.{some_fixed_page}
+use Rattle.blob_tool.proofs.ClosedStore.{HasSameStore, stays_same}
+use Rattle.blob_tool.proofs.ShownAtEnd.{shown_at_end}
 use Rattle.blob_tool.proofs.ClosedSurvives as closes
 use Rattle.blob_tool.proofs.RunSurvives as run
 use Rattle.blob_tool.proofs.RunSurvives.{LoadLaws}
@@ -119,9 +120,7 @@ module _ {D : Type 0} (d : Ghosts D) (laws : LoadLaws) (law : IsTrue d.tells →
         (subst (λ (c : Chains). AreMasks s x.metas c found.0) (fun_ext (λ head. (one head).1)) x.claims)
 
     super_stays : s ≡ super_of (image 0) s.device_pages
-    super_stays =
-        read.super told ∙ ap (λ n. super_of (opened 0) n) (sym read.device_pages)
-        ∙ ap (λ page. super_of page s.device_pages) (sym (fixed 0 (some_fixed_page s kept.placed)))
+    super_stays = run.super_kept d laws law b kept quick read sound image fixed
 
     trusted : IsLeftClean d s first b.at back
     trusted = record {
@@ -146,10 +145,22 @@ module _ {D : Type 0} (d : Ghosts D) (laws : LoadLaws) (law : IsTrue d.tells →
   unloaded true false is_clean is_quick =
       written (closed.clean told (λ both. let bad : false ≡ true = sym is_quick ∙ both.1 in cc bad))
 
+  -- ---- what is shown
+
+  -- all that the store has, but its super block and masks, is as it was read
+  behind_same : HasSameStore s (d.now b.at.disk) image
+  behind_same = stays_same s kept.placed (laws.apart s kept.faultless) b.at.clean masks (d.now b.at.disk) image
+      (closed.others told) (λ _. store)
+
+  read_says : Says (region_of s) base chains (d.now b.at.disk)
+  read_says = ((run.survived d laws law b kept quick read sound).stands runs (d.now b.at.disk)
+      ((law told).reads_an_image b.at.disk)).says
+
   -- what is left of a run that didn't stop
   pub lasting : IsLasting d s first b.at back
   lasting = record {
     one_image = closed.lasting told;
     holds = record { store = store; says = says };
+    shown = shown_at_end d told b kept runs image store behind_same read_says;
     unloaded = unloaded b.at.clean quick refl refl;
   }

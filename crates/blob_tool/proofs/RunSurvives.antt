@@ -24,9 +24,9 @@ use Rattle.store_core.specs.StoreInvariant.{OpensAsRead, opening_script, StoreIn
 use Rattle.unclean_load.specs.Accepted.{AcceptedAreKept, CanBeScanned, InUseAreAccepted, IsAccepted}
 use Rattle.unclean_load.specs.Accepted.{UnloadedAreAccepted}
 use Rattle.unclean_load.specs.Quick.{HasNoHeadBesideMask, ListedAreScanned, NoHeadIsKept, QuickIsKept}
-use Rattle.blob_tool.specs.Found.{HasSoundImage, ReadsAs}
+use Rattle.blob_tool.specs.Found.{HasSoundImage, IsSoundImage, ReadsAs}
 use Rattle.blob_tool.specs.Surviving.{RunComesBack, RunSurvives}
-use Rattle.blob_tool.proofs.ClosedStore.{HasSameStore}
+use Rattle.blob_tool.proofs.ClosedStore.{HasSameStore, some_fixed_page}
 
 -- the laws of loading that are used
 pub record LoadLaws : Type 0 where
@@ -86,7 +86,7 @@ module _ {D : Type 0} (d : Ghosts D) (laws : LoadLaws) (law : IsTrue d.tells →
   super_read = read.super told
 
   pub no_head_opened : HasNoHeadBesideMask s opened
-  no_head_opened = subst (λ (t : Super). HasNoHeadBesideMask t opened) (sym super_read) sound.no_head
+  no_head_opened = subst (λ (t : Super). HasNoHeadBesideMask t opened) (sym super_read) sound.sound.no_head
 
   pub opens : OpensAsRead d b.opening
   opens = record {
@@ -101,13 +101,24 @@ module _ {D : Type 0} (d : Ghosts D) (laws : LoadLaws) (law : IsTrue d.tells →
   pub images : CleanImages d s opened (state_of d b.at) b.at.disk
   images = kept_so.images opens
 
-  -- an image that is in use, or as the one that was opened, is accepted
-  pub accepts : (c : Image) → CanBeLoaded s c → IsMarkedOrOpened s opened c → IsAccepted s.device_pages c
-  accepts c x (inl in_use) = (laws.in_use _ c x.metas x.chains (scanned s c x) in_use).0
-  accepts c x (inr fixed) =
-      subst (λ n. IsAccepted n c) (sym read.device_pages)
-      (laws.accepted_kept (d.pages b.opening.disk) opened c
-      (subst (λ (t : Super). HasFixedPagesOf t opened c) super_read fixed) sound.accepted)
+  -- an image that has the fixed clusters of the one that was opened has its super block
+  pub super_kept : (c : Image) → HasFixedPagesOf s opened c → s ≡ super_of (c 0) s.device_pages
+  super_kept c fixed =
+      super_read ∙ ap (λ n. super_of (opened 0) n) (sym read.device_pages)
+      ∙ ap (λ page. super_of page s.device_pages) (sym (fixed 0 (some_fixed_page s kept_so.placed)))
+
+  -- an image that is in use, or as the one that was opened, is sound
+  pub sound_so : (c : Image) → CanBeLoaded s c → IsMarkedOrOpened s opened c → IsSoundImage s.device_pages c
+  sound_so c x (inl in_use) =
+      let y = laws.in_use _ c x.metas x.chains (scanned s c x) in_use in
+      record { accepted = y.0; no_head = subst (λ (t : Super). HasNoHeadBesideMask t c) x.store.same y.1 }
+  sound_so c x (inr fixed) = record {
+    accepted = subst (λ n. IsAccepted n c) (sym read.device_pages)
+        (laws.accepted_kept (d.pages b.opening.disk) opened c
+        (subst (λ (t : Super). HasFixedPagesOf t opened c) super_read fixed) sound.sound.accepted);
+    no_head = subst (λ (t : Super). HasNoHeadBesideMask t c) (super_kept c fixed)
+        (laws.no_head_kept s opened c kept_so.faultless fixed no_head_opened);
+  }
 
   -- what is known of the marks, both at once
   both : MarksKept d b.at.disk b.at.marks
@@ -118,12 +129,12 @@ module _ {D : Type 0} (d : Ghosts D) (laws : LoadLaws) (law : IsTrue d.tells →
         (survived.any_moment.any_moment t i lt c left, images.any_moment.any_moment t i lt c left);
   }
 
-  -- an image of the device behind the last turn, from which another one comes that is accepted
+  -- an image of the device behind the last turn, from which another one comes that is sound
   pub record ComesFrom (c : Image) : Type 0 where
     pub image : Image
     pub was : d.images b.at.disk image
     pub same : HasSameStore s image c
-    pub accepted : IsAccepted s.device_pages c
+    pub sound_too : IsSoundImage s.device_pages c
 
   some_mark : 0 < length b.at.marks
   some_mark = let count = kept_so.facts.counted in omega (arith, count)
@@ -144,7 +155,7 @@ module _ {D : Type 0} (d : Ghosts D) (laws : LoadLaws) (law : IsTrue d.tells →
     image = c;
     was = held;
     same = record { store = λ x. x; region = λ q low. refl; behind = λ page le. refl };
-    accepted = accepts c (loads c held) (way c held);
+    sound_too = sound_so c (loads c held) (way c held);
   }
 
   -- ---- what is left behind the last turn
@@ -160,7 +171,7 @@ module _ {D : Type 0} (d : Ghosts D) (laws : LoadLaws) (law : IsTrue d.tells →
     comes_same : (least : ℕ) (c : Image) (x : ComesFrom c) → StoreComesBack d s first b.at least x.image
         → RunComesBack d s first b.at back least c
     comes_same least c x y = (
-      x.accepted,
+      x.sound_too,
       recovers_from_same s kept_so.placed x.image c (x.same.store y.0.store) x.same.region x.same.behind first b.at.log
           least y.1,
     )
@@ -170,7 +181,7 @@ module _ {D : Type 0} (d : Ghosts D) (laws : LoadLaws) (law : IsTrue d.tells →
       any_moment = kept_by_run d b.at.disk back b.at.marks
           (λ i c. StoreComesBack d s first b.at i c × IsMarkedOrOpened s opened c)
           (RunComesBack d s first b.at back) Left both run.later (λ _. run)
-          (λ i lt c y. (accepts c y.0.0 y.1, y.0.1))
+          (λ i lt c y. (sound_so c y.0.0 y.1, y.0.1))
           (λ t i lt c left.
           let y = from c left in
           comes_same i c y (survived.any_moment.any_moment t i lt y.image
@@ -180,14 +191,14 @@ module _ {D : Type 0} (d : Ghosts D) (laws : LoadLaws) (law : IsTrue d.tells →
           let stands = survived.stands runs y.image y.was in
           let whole = stands_whole d told s first (opening_script b.opening) (state_of d b.at) b.at.disk refl refl
           kept_so.facts runs y.image stands in (
-            y.accepted,
+            y.sound_too,
             recovers_same s kept_so.placed y.image c (y.same.store stands.store) y.same.region y.same.behind first
                 b.at.log whole,
           );
       stopped = λ at is c held.
           let y = was_one c held in
           let z = survived.stopped at is y.image y.was in (
-            y.accepted,
+            y.sound_too,
             recovers_at_same s kept_so.placed y.image c (y.same.store z.0.store) y.same.region y.same.behind first
                 b.at.log at z.1,
           );

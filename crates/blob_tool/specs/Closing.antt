@@ -1,5 +1,5 @@
 -- How the device of a run is left behind the last turn.
-use Rattle.std.specs.Prelude.{◌≡◌, ◌≢◌, ◌⊎◌, ℕ, Bool, true, false, Option, Some, None, IsTrue}
+use Rattle.std.specs.Prelude.{◌≡◌, ◌≢◌, ◌⊎◌, ℕ, Bool, true, Option, Some, None, IsTrue}
 use Rattle.clean_stop.specs.Masks.{HasMasks, IsMaskPage}
 use Rattle.clean_stop.specs.Stopping.{with_clean, IsSuperPage}
 use Rattle.page_disk.specs.Disk.{Image, Images, Only, Rose}
@@ -23,12 +23,16 @@ pub data Becomes (s : Super) (masks : Masks) (image other : Image) : Type 0 wher
   in_use : IsSuperPage (with_clean 0 s) (other 0) → Becomes s masks image other
   clean : IsCleanWith s masks other → Becomes s masks image other
 
+-- a page that closing a store may write: the super block, or one of a mask
+abbrev pub IsOfClosing : Super → ℕ → Type 0
+IsOfClosing s page = (page ≡ 0) ⊎ IsMaskPage s page
+
 -- What power that fails may leave while a store is closed: what becomes so of an image from before, all but the super
 -- block and the masks as in it.
 pub record Closing (s : Super) (masks : Masks) (images : Images) (other : Image) : Type 0 where
   pub image : Image
   pub was : images image
-  pub others : SameBut (λ page. (page ≡ 0) ⊎ IsMaskPage s page) image other
+  pub others : SameBut (IsOfClosing s) image other
   pub becomes : Becomes s masks image other
 
 -- The masks on the device were trusted: the store is clean, and was loaded by them.
@@ -42,11 +46,12 @@ module _ {D : Type 0} (d : Ghosts D) (s : Super) (masks : Masks) (old new : D) w
   LeavesClosing = CallsLeaveOnly d old new (Closing s masks (d.images old))
 
   module _ (quick : Bool) where
-    -- The store was unloaded, and no fault was counted: one image is left, which is clean. Where the masks were trusted
-    -- nothing was written.
+    -- The store was unloaded, and no fault was counted: one image is left, which is clean, and in which all but the
+    -- super block and the masks is as it was read. Where the masks were trusted nothing was written.
     pub record IsClosed : Type 0 where
       pub closing : LeavesClosing
       pub lasting : IsTrue d.tells → Only (d.now new) (d.images new)
+      pub others : IsTrue d.tells → SameBut (IsOfClosing s) (d.now old) (d.now new)
       pub same : IsTrue d.tells → AreTrusted s quick → d.now new ≡ d.now old
       pub clean : IsTrue d.tells → (AreTrusted s quick → ⊥) → IsCleanWith s masks (d.now new)
       pub quiet : d.write_faults new ≡ d.write_faults old

@@ -7,6 +7,7 @@ use Rattle.job_begins.specs.Repairs.{LacksForRepair}
 use Rattle.md_chain.specs.Reading.{OnlyRead}
 use Rattle.script_lang.specs.Script.{reads, IsFirstBad}
 use Rattle.script_lang.specs.declared.fault.LineKind.{LineKind}
+use Rattle.script_lang.specs.declared.fault.LineKind.TheVariants.{Limit}
 use Rattle.script_lang.specs.declared.schedule.Actor.{Actor}
 use Rattle.running_store.specs.declared.loaded.Loaded.{Loaded}
 use Rattle.running_store.specs.StoreView.{state_of, StoreView}
@@ -39,9 +40,10 @@ module _ {S : Type 0} (s : source.Ghosts S) (script script_now : S) where
     pub first : IsFirstBad text line kind
     pub no_script : reads text ≡ None
 
-  -- it is too long, which is said as line 0
-  pub record IsTooLong (line : ℕ) : Type 0 where
+  -- it is too long, which is said as line 0 and as a limit
+  pub record IsTooLong (line : ℕ) (kind : LineKind) : Type 0 where
     pub line_is : line ≡ 0
+    pub kind_is : kind ≡ Limit
     pub long : IsTrue s.tells → 2 ^ 20 < length (s.left script)
 
   -- the whole text is a script with these commands of each channel
@@ -57,7 +59,7 @@ module _ {S : Type 0} (s : source.Ghosts S) (script script_now : S) where
 
   -- why the commands of a script that is given weren't had
   abbrev pub HasNoScript : Status → Type 0
-  HasNoScript (status.Script line kind) = (HasBadLine line kind ⊎ IsTooLong line)
+  HasNoScript (status.Script line kind) = (HasBadLine line kind ⊎ IsTooLong line kind)
   HasNoScript status.ScriptRead = Rose (s.faults script) (s.faults script_now)
   HasNoScript status.Memory = Unit {0}
   HasNoScript _ = ⊥
@@ -84,7 +86,7 @@ module _ {S : Type 0} (s : source.Ghosts S) (script script_now : S) where
   module _ {D : Type 0} (d : disk.Ghosts D) {K : Type 0} (k : sink.Ghosts K) (out out_now : K) (before back : D) where
     -- the script is none, or can't be read: then the device isn't touched
     abbrev pub IsBadScript : ℕ → LineKind → Type 0
-    IsBadScript line kind = NothingDone out out_now before back × (HasBadLine line kind ⊎ IsTooLong line)
+    IsBadScript line kind = NothingDone out out_now before back × (HasBadLine line kind ⊎ IsTooLong line kind)
 
     -- the source failed, and the device isn't touched
     abbrev pub IsUnread : Type 0

@@ -65,6 +65,7 @@ module _ {D : Type 0} (d : Ghosts D) {K : Type 0} (k : sink.Ghosts K) (out out_n
     pub last : StoreView D
     pub made : AreMade d first last
     pub device : back ≡ last.disk
+    pub pages : d.pages back ≡ d.pages first.disk
     pub quiet : out_now ≡ out
     pub unlogged : last.log ≡ []
     pub survives : HasSoundImage d first.disk → RunSurvives d first.super (shown (state_of d first)) last back

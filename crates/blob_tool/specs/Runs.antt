@@ -1,5 +1,5 @@
 -- A loaded store, and a run from it to its end.
-use Rattle.std.specs.Prelude.{◌≡◌, ◌⊎◌, ℕ, ◌<◌, List, length, ◌++◌, slice_get, Some, None, IsTrue}
+use Rattle.std.specs.Prelude.{◌≡◌, ◌≢◌, ◌⊎◌, ℕ, ◌<◌, List, length, ◌++◌, slice_get, Some, None, IsTrue}
 use Rattle.std.specs.List.{All}
 use Rattle.std.specs.FinMap as map
 use Rattle.page_disk.specs.Disk.{Rose}
@@ -49,6 +49,10 @@ abbrev pub FollowsSchedule : {D : Type 0} → disk.Ghosts D → List Actor → S
 FollowsSchedule d schedule first last =
     RunsStepwise d.tells (actors_in_run schedule) (state_of d first) (state_of d last)
 
+-- no entry of the log tells of a call of the device that failed
+abbrev pub TellsNoFault : List Entry → Type 0
+TellsNoFault log = All (λ e. IsQuiet e.reply) log × All (λ e. e.reply ≢ r.ReadFault) log
+
 module _ {D : Type 0} (d : disk.Ghosts D) (script : List (List Command)) where
   -- a store is found on the device, and opened with the script
   pub record IsLoaded (before : D) (loaded : Loaded D) (first : StoreView D) : Type 0 where
@@ -57,14 +61,15 @@ module _ {D : Type 0} (d : disk.Ghosts D) (script : List (List Command)) where
 
   module _ (schedule : List Actor) where
     -- A run leads from one state of the store to another, in which every channel has ended, no slots are filled and no
-    -- job runs. Its turns are repairs, until no blob has a mark, and then those of the steps of its schedule, and of
-    -- rounds of the channels and the metadata thread. Its log is a legal one of the script's commands, and the volumes
-    -- shown at the end are its replay, unless the store stopped. Of a device that doesn't tell what it holds both are
-    -- said but for what pages hold (`seen`).
+    -- job runs. Its turns are repairs, none of which fails, until no blob has a mark, and then those of the steps of
+    -- its schedule, and of rounds of the channels and the metadata thread. Its log is a legal one of the script's
+    -- commands, and the volumes shown at the end are its replay, unless the store stopped. Of a device that doesn't
+    -- tell what it holds both are said but for what pages hold (`seen`).
     pub record IsRun (first last : StoreView D) : Type 0 where
       pub opens : Opens (state_of d first)
       pub repaired : StoreView D
       pub repairs : AreMade d first repaired
+      pub unstopped : repaired.stopped ≡ None
       pub unmarked : HasNoMarks (base_of repaired.metas repaired.marked)
       pub follows : FollowsSchedule d schedule repaired last
       pub turns : (kinds : List Kind) × Run d.tells (state_of d first) kinds (state_of d last)
@@ -78,6 +83,9 @@ module _ {D : Type 0} (d : disk.Ghosts D) (script : List (List Command)) where
       pub counted : (at : ℕ) → last.stopped ≡ Some at → Rose (d.write_faults first.disk) (d.write_faults last.disk)
       pub uncounted : last.stopped ≡ None → d.write_faults last.disk ≡ d.write_faults first.disk
       pub fault_at : (k : ℕ) (e : Entry) → slice_get last.log k ≡ Some e → e.reply ≡ r.Fault → last.stopped ≡ Some k
+      -- an entry is a `read fault` only where the device has counted a failed read
+      pub read_counted : All
+          (λ e. e.reply ≡ r.ReadFault → Rose (d.read_faults first.disk) (d.read_faults last.disk)) last.log
       pub quiet : last.stopped ≡ None → All (λ e. IsQuiet e.reply) last.log
       pub replayed : last.stopped ≡ None
           → shown (state_of d last)
@@ -94,6 +102,9 @@ module _ {D : Type 0} (d : disk.Ghosts D) (script : List (List Command)) where
         pub claims : last.stopped ≡ None
             → AreMasks last.super (base_of last.metas last.marked) (map.get last.chains) masks
         pub device : LeavesClosing d (super_left last.clean last.super) masks last.disk back
+        -- it has as many pages as it had, and counts the failed reads of the run's turns
+        pub pages : d.pages back ≡ d.pages first.disk
+        pub read_faults : d.read_faults back ≡ d.read_faults last.disk
         -- power may fail at any moment, of a device that had one sound image
         pub survives : HasSoundImage d first.disk → RunSurvives d first.super (shown (state_of d first)) last back
         pub printed : IsTrue k.tells → IsPartOf (k.written out) (k.written out_now) (printed_text from last.log)

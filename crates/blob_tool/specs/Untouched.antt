@@ -1,10 +1,8 @@
 -- A device that is handed back as it was, or as it was read.
 use Rattle.std.specs.Prelude.{◌≡◌, IsTrue}
-use Rattle.page_disk.specs.Disk.{Rose}
 use Rattle.page_disk.specs.declared.disk.PageDisk as disk
 use Rattle.md_chain.specs.Reading.{OnlyRead}
-use Rattle.unclean_load.specs.Accepted.{IsAccepted, IsAcceptedByScan, IsFaultBy, IsImageFault}
-use Rattle.unclean_load.specs.Quick.{AreUsed}
+use Rattle.unclean_load.specs.Accepted.{IsAccepted, IsFaultOf, IsImageFault}
 use Rattle.unclean_load.specs.declared.fault.LoadFault.{LoadFault}
 
 -- nothing is printed, and the device that is handed back is the one that was handed in
@@ -18,13 +16,9 @@ module _ {D : Type 0} (d : disk.Ghosts D) (before : D) where
     pub quiet : out_now ≡ out
     pub device : OnlyRead d before back
 
-  -- The image isn't accepted, and this is its first fault. Where a read failed, it may have been that of a mask: then
-  -- the fault may be one that a scan finds, and the image isn't accepted both so and by its masks.
+  -- The image isn't accepted, and this is its first fault. No read failed.
   pub record IsRefused (back : D) (why : LoadFault) : Type 0 where
     pub of_image : IsImageFault why
-    pub first : IsTrue d.tells
-        → IsFaultBy (AreUsed (d.read_faults before) (d.read_faults back)) (d.pages before) (d.now before) why
-    pub refused : IsTrue d.tells → (Rose (d.read_faults before) (d.read_faults back) → ⊥)
-        → IsAccepted (d.pages before) (d.now before) → ⊥
-    pub either : IsTrue d.tells → IsAccepted (d.pages before) (d.now before)
-        → IsAcceptedByScan (d.pages before) (d.now before) → ⊥
+    pub first : IsTrue d.tells → IsFaultOf (d.pages before) (d.now before) why
+    pub refused : IsTrue d.tells → IsAccepted (d.pages before) (d.now before) → ⊥
+    pub no_fault : d.read_faults back ≡ d.read_faults before

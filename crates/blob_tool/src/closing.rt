@@ -1,10 +1,11 @@
 //! The end of a run: what was written is made lasting, and the store is clean.
 
 ghost use Rattle.std.specs.Prelude.{◌≡◌, ◌≤◌, None, OnOk, OnErr, IsTrue};
-ghost use Rattle.blob_tool.specs.Closing.{AreTrusted, Closes, Closing, IsCleanWith};
+ghost use Rattle.blob_tool.specs.Closing.{AreTrusted, Closes, Closing, IsCleanWith, IsOfClosing};
 ghost use Rattle.clean_stop.specs.Masks.{MasksFit};
 ghost use Rattle.page_disk.specs.Disk.{HasCause, Only};
 ghost use Rattle.page_disk.specs.Moments.{CallsLeaveOnly};
+ghost use Rattle.page_runs.specs.Writing.{SameBut};
 ghost use Rattle.super_block.specs.Faults.{IsFaultless};
 
 use clean_stop::{mark_dirty, unload, unloaded_masks_are_read};
@@ -18,9 +19,12 @@ fn unload_anew<D: PageDisk>(disk: &mut D, sup: &mut Super, masks: &Masks) -> Res
     requires masks { MasksFit sup.old masks.now }
     ensures any_moment { CallsLeaveOnly D.PageDisk disk.old disk.new (Closing sup.old masks.now (D.images disk.old)) }
     ensures unloaded { IsTrue D.tells → OnOk result (IsCleanWith sup.old masks.now (D.now disk.new)) }
+    ensures others { IsTrue D.tells → OnOk result (SameBut (IsOfClosing sup.old) (D.now disk.old) (D.now disk.new)) }
     ensures one_image { IsTrue D.tells → OnOk result (Only (D.now disk.new) (D.images disk.new)) }
     ensures faults { HasCause (D.write_faults disk.old) (D.write_faults disk.new) result }
     ensures no_fault { OnOk result (D.write_faults disk.new ≡ D.write_faults disk.old) }
+    ensures read_faults { D.read_faults disk.new ≡ D.read_faults disk.old }
+    ensures pages { D.pages disk.new ≡ D.pages disk.old }
 {
     unloaded_masks_are_read();
     mark_dirty(disk, sup)?;
@@ -42,9 +46,12 @@ fn unload_store<D: PageDisk>(
     ensures same { IsTrue D.tells → AreTrusted sup.old quick → D.now disk.new ≡ D.now disk.old }
     ensures unloaded { IsTrue D.tells → (AreTrusted sup.old quick → ⊥)
         → OnOk result (IsCleanWith sup.old masks.now (D.now disk.new)) }
+    ensures others { IsTrue D.tells → OnOk result (SameBut (IsOfClosing sup.old) (D.now disk.old) (D.now disk.new)) }
     ensures one_image { IsTrue D.tells → OnOk result (Only (D.now disk.new) (D.images disk.new)) }
     ensures faults { HasCause (D.write_faults disk.old) (D.write_faults disk.new) result }
     ensures no_fault { OnOk result (D.write_faults disk.new ≡ D.write_faults disk.old) }
+    ensures read_faults { D.read_faults disk.new ≡ D.read_faults disk.old }
+    ensures pages { D.pages disk.new ≡ D.pages disk.old }
 {
     unloaded_masks_are_read();
     if sup.clean == 1 && !quick {
@@ -67,7 +74,9 @@ pub(crate) fn close<D: PageDisk>(
     requires faultless { IsFaultless sup.old }
     requires device { sup.old.device_pages ≤ D.pages disk.old }
     requires masks { stopped ≡ None → MasksFit sup.old masks.now }
-    ensures { Closes D.PageDisk sup.old masks.now disk.old disk.new quick entries stopped result }
+    ensures closes { Closes D.PageDisk sup.old masks.now disk.old disk.new quick entries stopped result }
+    ensures read_faults { D.read_faults disk.new ≡ D.read_faults disk.old }
+    ensures pages { D.pages disk.new ≡ D.pages disk.old }
 {
     if stopped.is_some() {
         return stopped;

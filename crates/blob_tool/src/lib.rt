@@ -6,6 +6,7 @@ mod format_words;
 mod formatting;
 mod generate_words;
 mod generating;
+mod laws;
 mod listing;
 mod playing;
 mod repairing;
@@ -16,6 +17,7 @@ mod status;
 mod task;
 mod top;
 
+pub use laws::{left_images_are_loaded, undisturbed_runs_tell_no_fault};
 pub use script_lang::LineKind;
 pub use status::Status;
 pub use streams::{ListSink, ListSource, Sink, SinkFault, Source, SourceFault};

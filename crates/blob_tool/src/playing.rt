@@ -65,7 +65,8 @@ fn run_repaired<K: Sink, D: PageDisk>(
     requires seventeen { length plant.opening.rows ≡ 17 }
     requires repaired { IsRepaired (state_of D.PageDisk plant.at) }
     ensures { (script : List (List ACommand)) → AreRows script plant.opening.rows
-        → AreMade D.PageDisk plant.opening plant.at → HasNoMarks (base_of plant.at.metas plant.at.marked)
+        → AreMade D.PageDisk plant.opening plant.at → plant.at.stopped ≡ None
+        → HasNoMarks (base_of plant.at.metas plant.at.marked)
         → Ended D.PageDisk script schedule.now from K.Sink out.old out.new result.1 plant.opening result.0 }
 {
     state_stops();

@@ -67,9 +67,3 @@ module _ (p : StoreState) (d : RunMessages) (ch : ℕ) where
       let less : nat_lt (length d.queue) 8 ≡ true = grind (arith, nat_tests) in
       at_stage (Posted serial) true at (ap (λ (o : Option ℕ). is_there o && nat_lt (length d.queue) 8) some ∙ less)
       ∙ ap (λ b. b && true) below
-
-  -- a number that is no channel's
-  pub no_channel : (ch < 16 → ⊥) → can_channel w ch ≡ false
-  no_channel high =
-      let above : nat_lt ch 16 ≡ false = grind (arith, nat_tests) in
-      ap (λ b. b && can_at (is_free_at w ch) (can_send w ch) (w.rows ch).stage) above

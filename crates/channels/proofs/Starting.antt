@@ -9,7 +9,6 @@ use Rattle.std.proofs.Math.Path.{fun_ext}
 use Rattle.std.proofs.lemmas.Bool.Decides.{nat_tests}
 use Rattle.std.proofs.lemmas.Option.{slice_get_past, slice_get_within}
 use Rattle.std.proofs.lemmas.Bool.{cases_eq, cases_lt}
-use Rattle.std.proofs.lemmas.List.{length-set}
 use Rattle.page_disk.specs.declared.disk.PageDisk.{Ghosts}
 use Rattle.volume_model.specs.declared.command.Command.{Command}
 use Rattle.volume_model.specs.declared.command.Command.TheVariants as c
@@ -159,6 +158,3 @@ module _ (filling : Option ℕ) (rows : List Row) (count : ℕ) (channels : List
         ∙ ap (λ n. Some (starting_at filling n (is_stage (rows_of rows n) n))) (sym same)
     | inr ne ↦ get_set_other channels count k e ne ∙ so.each k (omega (arith, below, ne))
   ]
-
-  pub one_started : StartsSoFar filling rows (count + 1) (slice_set channels count e)
-  one_started = record { sixteen = length-set channels count e ∙ so.sixteen; each = next_each }

@@ -7,7 +7,7 @@ use Rattle.super_block.specs.Numbers.{clusters_of}
 use Rattle.super_block.specs.declared.masks.Masks.{Masks}
 use Rattle.super_block.specs.declared.page.Super.{Super}
 use Rattle.blob_tool.specs.Closing.{Closing}
-use Rattle.blob_tool.proofs.ClosingImages.{marked_left, marked_unloading_closes, marking_closes}
+use Rattle.blob_tool.proofs.ClosingImages.{marked_left, marked_stays, marked_unloading_closes, marking_closes}
 use Rattle.blob_tool.proofs.closing.unload_anew.Goals as goal
 
 pub returns-in_err-mark_dirty-clause-any_moment : goal.returns-in_err-mark_dirty-clause-any_moment
@@ -56,6 +56,20 @@ returns-clause-unloaded g c told =
     let dirty = c.in_ok-mark_dirty.ensures.dirty in
     on_ok_weaker c.unload.result
     (λ x. marked_left s masks (d.now mid) (d.now c.unload.new.disk)
+    (subst (λ (t : Super). IsUnloaded t masks (d.now mid) (d.now c.unload.new.disk)) dirty x))
+    (c.unload.ensures.unloaded told
+    (λ bad. let zero : 0 ≡ 1 = sym (ap (λ (t : Super). t.clean) dirty) ∙ bad in cc zero))
+
+pub returns-clause-others : goal.returns-clause-others
+returns-clause-others g c told =
+    let s = c.args.sup.now in
+    let masks = c.args.masks.now in
+    let d = g.D.PageDisk in
+    let mid = c.mark_dirty.new.disk in
+    let dirty = c.in_ok-mark_dirty.ensures.dirty in
+    on_ok_weaker c.unload.result
+    (λ x. marked_stays s masks (d.now c.args.disk.now) (d.now mid) (d.now c.unload.new.disk)
+    (c.mark_dirty.ensures.elsewhere told)
     (subst (λ (t : Super). IsUnloaded t masks (d.now mid) (d.now c.unload.new.disk)) dirty x))
     (c.unload.ensures.unloaded told
     (λ bad. let zero : 0 ≡ 1 = sym (ap (λ (t : Super). t.clean) dirty) ∙ bad in cc zero))

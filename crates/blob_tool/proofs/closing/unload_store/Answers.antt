@@ -1,5 +1,6 @@
-use Rattle.std.proofs.Common.{◌≡◌, ⊎_elim, inl, inr}
+use Rattle.std.proofs.Common.{◌≡◌, ⊎_elim, ap, inl, inr}
 use Rattle.std.proofs.lemmas.Result.{on_ok_weaker}
+use Rattle.page_disk.specs.Disk.{Image}
 use Rattle.page_disk.proofs.Moments.{weaker}
 use Rattle.blob_tool.proofs.ClosingImages.{before_closes, left_clean, unloading_closes}
 use Rattle.blob_tool.proofs.closing.unload_store.Goals as goal
@@ -30,3 +31,13 @@ returns-else-sup-eq1-clause-unloaded g c told not_trusted =
 
 pub returns-else-sup-eq1-clause-same : goal.returns-else-sup-eq1-clause-same
 returns-else-sup-eq1-clause-same g c told trusted = c.unload.ensures.same told trusted.0
+
+pub returns-else-sup-eq1-clause-others : goal.returns-else-sup-eq1-clause-others
+returns-else-sup-eq1-clause-others g c told =
+    let d = g.D.PageDisk in
+    elim c.else-sup-eq1.either [
+      | inl trusted ↦ on_ok_weaker c.unload.result
+          (λ _ page out. ap (λ (i : Image). i page) (c.unload.ensures.same told trusted.0))
+          (c.unload.ensures.one_image told)
+      | inr dirty ↦ on_ok_weaker c.unload.result (λ x. x.others) (c.unload.ensures.unloaded told dirty)
+    ]

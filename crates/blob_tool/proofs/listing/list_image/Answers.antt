@@ -15,11 +15,11 @@ returns-in-Err g c =
     (sym c.from.ensures)
     (unlisted d g.K.Sink c.args.out.now c.args.out.now c.args.disk c.in-Err.disk c.in-Err.fault
     (record { quiet = refl; device = c.in-Err.ensures.same }) c.in-Err.ensures.counted
-    (λ of_image. record {
+    (λ of_image no_fault. record {
       of_image = of_image;
       first = c.in-Err.ensures.cause;
-      refused = λ t quiet accepted. c.in-Err.ensures.refused t of_image accepted quiet;
-      either = λ t. c.in-Err.ensures.refused_either t of_image;
+      refused = λ t. c.in-Err.ensures.refused t of_image;
+      no_fault = no_fault;
     }))
 
 pub returns-in-Ok-offer : goal.returns-in-Ok-offer
@@ -30,7 +30,7 @@ returns-in-Ok-offer g c =
         loaded = c.in-Ok.loaded;
         found = found_by g.D.PageDisk c.args.disk c.in-Ok.loaded c.in-Ok.ensures.same c.in-Ok.ensures.super_block
             c.in-Ok.ensures.found c.in-Ok.ensures.quick c.in-Ok.ensures.accepted c.in-Ok.ensures.says
-            c.in-Ok.ensures.recovered;
+            c.in-Ok.ensures.recovered c.in-Ok.ensures.no_fault;
         device = c.disk_of-disk.ensures;
       };
       printed = λ t.
@@ -46,7 +46,7 @@ returns g c =
         loaded = c.in-Ok.loaded;
         found = found_by g.D.PageDisk c.args.disk c.in-Ok.loaded c.in-Ok.ensures.same c.in-Ok.ensures.super_block
             c.in-Ok.ensures.found c.in-Ok.ensures.quick c.in-Ok.ensures.accepted c.in-Ok.ensures.says
-            c.in-Ok.ensures.recovered;
+            c.in-Ok.ensures.recovered c.in-Ok.ensures.no_fault;
         device = c.disk_of-disk.ensures;
       };
       part = λ t.

@@ -63,11 +63,9 @@ returns-in-None g c =
     let opened = subst (IsOpened d c.args.loaded c.args.script) same c.in-Ok.ensures.opened in
     let ends = subst (λ (p : StoreView g.row.D.Denot). EndsRepairs d p b.at c.repair-end.result) same
     c.repair-end.ensures.ended in
+    let repaired = none_left d b.at c.repair-end.result (sym c.status.ensures ∙ c.in-None.is) ends.ended in
     inl (
       b.opening,
       opened,
-      inl (
-          c.run_repaired.ensures c.args.script opened.rows ends.made
-          (none_left d b.at c.repair-end.result (sym c.status.ensures ∙ c.in-None.is) ends.ended).1
-          ),
+      inl (c.run_repaired.ensures c.args.script opened.rows ends.made repaired.0 repaired.1),
     )

@@ -46,7 +46,7 @@ close-ended-requires-clause-masks g c = λ none.
     (c.into_parts-disk.ensures.masks (sym c.stopped-stopped.ensures ∙ none)))
 
 pub returns : goal.returns
-returns g c script rows made unmarked =
+returns g c script rows made unstopped unmarked =
     let d = g.D.PageDisk in
     let k = g.K.Sink in
     let law = g.met.D.PageDisk.telling in
@@ -67,7 +67,7 @@ returns g c script rows made unmarked =
     c.close-ended.result)
     c.into_parts-disk.ensures.disk
     (subst (λ s. Closes d s masks c.into_parts-disk.result.disk back c.args.quick c.len.result c.stopped-stopped.result
-    c.close-ended.result) c.into_parts-disk.ensures.sup c.close-ended.ensures)) in
+    c.close-ended.result) c.into_parts-disk.ensures.sup c.close-ended.ensures.closes)) in
     let laws = load_laws c.stores_are_accepted.ensures.in_use c.clean_stores_are_quick.ensures.accepted
     c.clean_stores_are_quick.ensures.listed c.fixed_clusters_decide.ensures.accepted
     c.fixed_clusters_decide.ensures.quick c.fixed_clusters_decide.ensures.no_head
@@ -80,7 +80,8 @@ returns g c script rows made unmarked =
     let played : Played d script c.args.schedule.now c.args.from k c.args.out.now c.report-printed.new.out back
     store.opening = record {
       last = store.at;
-      run = is_run d script store kept rows_here c.run_stepwise-plant.ensures.ended c.args.plant.at made_here unmarked
+      run = is_run d script store kept rows_here c.run_stepwise-plant.ensures.ended c.args.plant.at made_here unstopped
+          unmarked
           c.args.schedule.now
           c.run_stepwise-plant.ensures.follows c.state_stops.ensures
           c.run_stepwise-plant.ensures.no_job c.run_stepwise-plant.ensures.unused;
@@ -88,6 +89,8 @@ returns g c script rows made unmarked =
       claims = c.into_parts-disk.ensures.masks;
       device = closes_at_most d sup masks store.at.disk back law c.args.quick (length store.at.log)
           c.stopped-stopped.result c.close-ended.result closes;
+      pages = c.close-ended.ensures.pages ∙ ap d.pages c.into_parts-disk.ensures.disk ∙ kept.pages;
+      read_faults = c.close-ended.ensures.read_faults ∙ ap d.read_faults c.into_parts-disk.ensures.disk;
       survives = survives_to_its_end d laws law store kept c.args.quick read masks back (length store.at.log)
           c.stopped-stopped.result c.close-ended.result (sym c.stopped-stopped.ensures) c.into_parts-disk.ensures.masks
           closes;

@@ -21,7 +21,8 @@ returns-in-Ok-load-clause-outcome g c =
     of_a_run g.S.Source c.args.script.now c.commands_of.new.source d g.K.Sink c.args.out.now c.play.new.out c.args.disk
     c.play.result.1 c.args.from c.args.schedule.now c.in-Ok.commands loaded c.play.result.0 c.in-Ok.ensures.commands
     (λ first opened. record {
-      found = found_by d c.args.disk loaded x.same x.super_block x.found x.quick x.accepted x.says x.recovered;
+      found = found_by d c.args.disk loaded x.same x.super_block x.found x.quick x.accepted x.says x.recovered
+          x.no_fault;
       opened = opened;
     }) x.same c.play.ensures
 
@@ -37,7 +38,8 @@ returns-in-Ok-load-clause-complete g c fails =
       script_is = c.in-Ok.ensures.commands;
       loaded = loaded;
       as_found = record {
-        found = found_by d c.args.disk loaded x.same x.super_block x.found x.quick x.accepted x.says x.recovered;
+        found = found_by d c.args.disk loaded x.same x.super_block x.found x.quick x.accepted x.says x.recovered
+            x.no_fault;
         opened = opened;
       };
     }) c.play.ensures
@@ -53,11 +55,11 @@ returns-in-Err-load-clause-outcome g c =
     (record { quiet = refl; device = c.in-Err-load.ensures.same })
     (record { commands = c.in-Ok.commands; script_is = c.in-Ok.ensures.commands })
     c.in-Err-load.ensures.counted
-    (λ of_image. record {
+    (λ of_image no_fault. record {
       of_image = of_image;
       first = c.in-Err-load.ensures.cause;
-      refused = λ t quiet accepted. c.in-Err-load.ensures.refused t of_image accepted quiet;
-      either = λ t. c.in-Err-load.ensures.refused_either t of_image;
+      refused = λ t. c.in-Err-load.ensures.refused t of_image;
+      no_fault = no_fault;
     }))
 
 pub returns-in-Err-clause-no_usage : goal.returns-in-Err-clause-no_usage
