@@ -1,6 +1,6 @@
-//! Tests of the crates that a store's device stands on (`crc32c`, `page_disk`), of its pages, its super block and its
-//! masks (`page_fields`, `md_page`, `super_block`, `clean_stop`, `bit_array`), and of what is clear or frozen (`pools`,
-//! `io_freeze`).
+//! Tests of the crates that a store's device stands on (`crc32c`, `page_disk`, `file_disk`), of its pages, its super
+//! block and its masks (`page_fields`, `md_page`, `super_block`, `clean_stop`, `bit_array`), and of what is clear or
+//! frozen (`pools`, `io_freeze`).
 #![tactic(auto)]
 
 #[cfg(test)]
@@ -11,6 +11,8 @@ mod disk;
 mod guards;
 #[cfg(test)]
 mod masks;
+#[cfg(test)]
+mod over_files;
 #[cfg(test)]
 mod page;
 #[cfg(test)]

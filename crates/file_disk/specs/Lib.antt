@@ -1,0 +1,5 @@
+pub mod FileCalls
+pub mod Notes
+pub mod PageBytes
+pub mod Recorded
+pub mod FileDisks
