@@ -1,11 +1,19 @@
 #!/usr/bin/env bash
 # Builds the program, makes a store on a block device, a loop device over an image, and a volume in it, and lists both.
-# Only root can make a loop device.
+# Then the device is mounted, and swap space, and is refused with status 6 each time. Only root can make a loop device.
+# BLOBTOOL may name a program that is built already.
 set -euo pipefail
 . "$(dirname "$0")/on_image.sh"
 
 device=$(losetup --find --show "$image")
-trap 'losetup --detach "$device"; rm -f "$image"' EXIT
+folder=$(mktemp -d)
+release() {
+    swapoff "$device" 2>/dev/null || true
+    umount "$folder" 2>/dev/null || true
+    losetup --detach "$device"
+    rm -rf "$image" "$folder"
+}
+trap release EXIT
 
 program blobtool format "$device" --cluster 16384 </dev/null
 program blobtool run "$device" <<'END'
@@ -17,3 +25,28 @@ program blobtool run "$device" <<'END'
 0 read v 5 1
 END
 program blobtool list "$device" </dev/null
+
+# refused WORDS..: the program ends with 6, and leaves the device as it is.
+refused() {
+    local before status=0
+    before=$(cksum <"$device")
+    program blobtool "$@" </dev/null || status=$?
+    [ "$status" = 6 ] || { echo "wanted status 6, got $status" && exit 1; }
+    [ "$before" = "$(cksum <"$device")" ] || { echo "the device was written" && exit 1; }
+}
+
+echo "a store is there: --new refuses it"
+refused format "$device" --new --cluster 16384
+echo "the device is mounted"
+mkfs.ext2 -q "$device"
+mount "$device" "$folder"
+refused format "$device" --cluster 16384
+refused run "$device"
+umount "$folder"
+echo "the device is swap space"
+mkswap "$device" >/dev/null 2>&1
+swapon "$device"
+refused format "$device" --cluster 16384
+swapoff "$device"
+echo "nobody has it any more"
+program blobtool format "$device" --new --cluster 16384 </dev/null

@@ -5,11 +5,16 @@ image=$(mktemp)
 trap 'rm -f "$image"' EXIT
 truncate -s 256K "$image"
 
-# program CRATE WORDS < SCRIPT: shows the script, builds the program, and runs it.
+# program CRATE WORDS < SCRIPT: shows the script, builds the program, and runs it. Where BLOBTOOL names a program that
+# is built already, that is run in place of blobtool.
 program() {
     local crate=$1 script
     shift
     script=$(cat)
     sed -n 's/^./script:   &/p' <<<"$script"
+    if [ "$crate" = blobtool ] && [ -n "${BLOBTOOL:-}" ]; then
+        "$BLOBTOOL" "$@" <<<"$script"
+        return
+    fi
     (cd "crates/$crate" && rt try -- "$@" <<<"$script")
 }

@@ -6,7 +6,10 @@
 
 use blob_tool::{Status, blobtool};
 use command_words::{CommandWords, read_words, refusal};
-use host_io::{Access, Ending, FileDisk, OpenFault, StdSink, StdSource};
+use host_io::{
+    Access, CallFailure, Ending, ErrorLine, FileDisk, ImageSizes, KeptInput, OpenFault, StdSink,
+    StdSource, hold_streams, image_beside, is_asked_for, take_new, word_fault,
+};
 use page_disk::{MemDisk, PageDisk};
 use std::process::ExitCode;
 use std::{env, io};
@@ -28,57 +31,104 @@ fn open(rt: &HostRuntime, image: &str, access: Access) -> Result<FileDisk, OpenF
 /// The ending at words that are no command, or of which one isn't of its form.
 fn usage(rt: &HostRuntime, words: &[String]) -> Ending {
     match refusal(rt.alloc(), words) {
-        Ok(Some(text)) => Ending::Refused(text),
+        Ok(Some(text)) => return Ending::Refused(text),
+        Ok(None) => {}
+        Err(_) => return Ending::Ran(Status::Memory),
+    }
+    match word_fault(rt.alloc(), words) {
+        Ok(Some(fault)) => Ending::BadWord(fault),
         Ok(None) => Ending::Ran(Status::Usage),
         Err(_) => Ending::Ran(Status::Memory),
     }
 }
 
-/// Does what the words say over the standard streams and this device.
-fn perform<D: PageDisk + Drop + Send>(rt: &HostRuntime, words: &[String], disk: D) -> Ending {
-    let mut script = StdSource::new(rt.stdin());
+/// Does what the words say over the standard streams and this device, which it hands back.
+fn perform<'a, D: PageDisk + Drop + Send>(
+    rt: &HostRuntime,
+    words: &'a [String],
+    image: Option<&'a str>,
+    disk: D,
+) -> (ErrorLine<'a>, D) {
+    let mut script = StdSource::new(KeptInput::new(rt.alloc(), rt.stdin()));
     let mut out = StdSink::new(rt.stdout());
-    let (status, _disk) = blobtool(rt.alloc(), words, &mut script, &mut out, disk);
-    match status {
+    let (status, disk) = blobtool(rt.alloc(), words, &mut script, &mut out, disk);
+    let failure = match &status {
+        Status::ScriptRead => script.failure(),
+        Status::OutWrite => out.failure(),
+        _ => None,
+    };
+    let script_line = match &status {
+        Status::Script { line, .. } if *line > 0 => script.reader().line(rt.alloc(), *line).ok(),
+        _ => None,
+    };
+    let ending = match status {
         Status::Usage => usage(rt, words),
         status => Ending::Ran(status),
-    }
+    };
+    let mut line = ErrorLine::new(words.first().map(|word| word.as_str()), image, ending);
+    line.failure = failure;
+    line.script_line = script_line;
+    (line, disk)
 }
 
 /// Does what the words say over this image.
-fn over_image(rt: &HostRuntime, words: &[String], image: &str, access: Access) -> Ending {
+fn over_image<'a>(
+    rt: &HostRuntime,
+    words: &'a [String],
+    image: &'a str,
+    access: Access,
+) -> ErrorLine<'a> {
     match open(rt, image, access) {
-        Ok(disk) => perform(rt, words, disk),
-        Err(error) => Ending::NotOpened(error),
+        Ok(disk) => {
+            let (mut line, mut disk) = perform(rt, words, Some(image), disk);
+            if matches!(&line.ending, Ending::Ran(Status::Image { .. })) {
+                line.sizes = ImageSizes::on(&mut disk);
+            }
+            if matches!(&line.ending, Ending::Ran(Status::Device { .. })) {
+                line.failure = disk.file().failure().map(CallFailure::from);
+            }
+            line
+        }
+        Err(fault) => {
+            let command = words.first().map(|word| word.as_str());
+            ErrorLine::new(command, Some(image), Ending::NotOpened(fault))
+        }
     }
 }
 
 /// Does what the words say over a device without pages, since they name no image.
-fn without_image(rt: &HostRuntime, words: &[String]) -> Ending {
+fn without_image<'a>(rt: &HostRuntime, words: &'a [String]) -> ErrorLine<'a> {
     match MemDisk::new(rt.alloc(), 0, 0) {
-        Ok(disk) => perform(rt, words, disk),
-        Err(_) => Ending::Ran(Status::Memory),
+        Ok(disk) => {
+            let (line, _disk) = perform(rt, words, None, disk);
+            line
+        }
+        Err(_) => ErrorLine::new(None, None, Ending::Ran(Status::Memory)),
     }
 }
 
-/// The image that words name which are no command: the second word, where it is no option. A script that is generated
-/// has no image.
-fn image_beside(words: &[String]) -> Option<&str> {
-    if words.first()?.as_str() == "generate" {
-        return None;
+/// Answers words that are no command. What they ask for is answered at once; else an image that can't be opened is told
+/// before them.
+fn refuse<'a>(rt: &HostRuntime, words: &'a [String]) -> ErrorLine<'a> {
+    match refusal(rt.alloc(), words) {
+        Ok(Some(text)) if is_asked_for(&text) => {
+            return ErrorLine::new(None, None, Ending::Refused(text));
+        }
+        Ok(_) => {}
+        Err(_) => return ErrorLine::new(None, None, Ending::Ran(Status::Memory)),
     }
-    let image = words.get(1)?.as_str();
-    if image.starts_with('-') {
-        None
-    } else {
-        Some(image)
+    match image_beside(words) {
+        Some(image) => over_image(rt, words, image, Access::Read),
+        None => without_image(rt, words),
     }
 }
 
-/// Opens the image that the words name, and does what they say. An image that can't be opened is told before words that
-/// are no command.
-fn start(rt: &HostRuntime, words: &[String]) -> Ending {
+/// Opens the image that the words name, for a new store alone where that is asked for, and does what they say.
+fn start<'a>(rt: &HostRuntime, words: &'a [String], is_new: bool) -> ErrorLine<'a> {
     match read_words(rt.alloc(), words) {
+        Ok(Some(CommandWords::Format { image, .. })) if is_new => {
+            over_image(rt, words, image, Access::WriteNew)
+        }
         Ok(
             Some(
                 CommandWords::Run { image, .. }
@@ -88,23 +138,43 @@ fn start(rt: &HostRuntime, words: &[String]) -> Ending {
         ) => over_image(rt, words, image, Access::Write),
         Ok(Some(CommandWords::List { image })) => over_image(rt, words, image, Access::Read),
         Ok(Some(CommandWords::Generate { .. })) => without_image(rt, words),
-        Ok(None) => match image_beside(words) {
-            Some(image) => over_image(rt, words, image, Access::Read),
-            None => without_image(rt, words),
-        },
-        Err(_) => Ending::Ran(Status::Memory),
+        Ok(None) => refuse(rt, words),
+        Err(_) => ErrorLine::new(None, None, Ending::Ran(Status::Memory)),
+    }
+}
+
+/// Prints the line of an ending, but for the good one, and gives the exit status.
+fn tell(rt: &HostRuntime, line: &ErrorLine<'_>) -> u8 {
+    let _ = match &line.ending {
+        Ending::Ran(Status::Good) => Ok(()),
+        Ending::Refused(_) => eprint!(rt; "{line}"),
+        _ => eprintln!(rt; "{line}"),
+    };
+    line.ending.code()
+}
+
+/// Does what the program is called for, and gives the exit status.
+fn serve(rt: &HostRuntime) -> u8 {
+    match words(rt) {
+        Ok(mut words) => {
+            let is_new = take_new(&mut words);
+            tell(rt, &start(rt, words.as_slice(), is_new))
+        }
+        Err(error) => tell(rt, &ErrorLine::new(None, None, Ending::no_words(error))),
     }
 }
 
 fn main(rt: HostRuntime) -> ExitCode {
-    let ending = match words(&rt) {
-        Ok(words) => start(&rt, words.as_slice()),
-        Err(error) => Ending::no_words(error),
+    let code = match hold_streams(&rt) {
+        Ok(held) => {
+            let code = serve(&rt);
+            drop(held);
+            code
+        }
+        Err(error) => {
+            let ending = Ending::NotOpened(OpenFault::Failed(error));
+            tell(&rt, &ErrorLine::new(None, Some("/dev/null"), ending))
+        }
     };
-    let _ = match &ending {
-        Ending::Ran(Status::Good) => Ok(()),
-        Ending::Refused(text) => eprint!(rt; "{text}"),
-        _ => eprintln!(rt; "blobtool: {ending}"),
-    };
-    ExitCode::from(ending.code())
+    ExitCode::from(code)
 }

@@ -58,7 +58,9 @@ fn sized_format_line<'a>(alloc: Global) -> Result<Command<'a>, AllocError>
         .about("Writes an empty store, and prints how much space it has")
         .after_help(
             "Examples:{n}  blobtool format store.img --cluster 16384 --md-pages 16{n}  \
-             blobtool format store.img --lvol store0 --uuid 5f2b4e66-0d0c-4c1e-9a55-3f0a7c2d9b10",
+             blobtool format store.img --lvol store0 --uuid 5f2b4e66-0d0c-4c1e-9a55-3f0a7c2d9b10{n}{n}\
+             Warning: what is in the file is lost. With the option --new a file that has a{n}\
+             store already is refused.",
         )
         .arg(placed(
             alloc,

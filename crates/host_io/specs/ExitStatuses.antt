@@ -16,10 +16,11 @@ status_number status.OutWrite = 5
 status_number (status.Device at) = 6
 status_number status.Memory = 7
 
--- Words that aren't UTF-8, or that ask for help or the version, are no command; an image that can't be opened counts as
--- a device that fails.
+-- Words that aren't UTF-8, that ask for help or the version, or of which one isn't of its form, are no command; an
+-- image that can't be opened counts as a device that fails.
 abbrev pub exit_status : Ending → ℕ
 exit_status (ending.Ran status) = status_number status
 exit_status (ending.Refused text) = 1
+exit_status (ending.BadWord fault) = 1
 exit_status ending.NotText = 1
 exit_status (ending.NotOpened fault) = 6

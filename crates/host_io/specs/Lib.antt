@@ -1,3 +1,2 @@
 pub mod ExitStatuses
-pub mod FileDisks
 pub mod OpenFaults

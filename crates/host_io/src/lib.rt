@@ -3,13 +3,36 @@
 #![tactic(auto)]
 
 mod ending;
-mod file_disk;
+mod error_line;
+mod failure;
+mod fault_words;
+mod held_device;
 mod image;
+#[cfg(test)]
+mod image_line_tests;
+mod kept_input;
+#[cfg(test)]
+mod line_tests;
+mod on_line;
 mod std_sink;
 mod std_source;
+mod std_streams;
+mod super_words;
+mod word_faults;
+mod words;
 
 pub use ending::Ending;
-pub use file_disk::FileDisk;
-pub use image::{Access, OpenFault, open};
+pub use error_line::ErrorLine;
+pub use failure::{CallFailure, SystemCall};
+pub use held_device::DeviceHolder;
+pub use image::{Access, OpenFault, OtherFile, open};
+pub use kept_input::KeptInput;
 pub use std_sink::StdSink;
 pub use std_source::StdSource;
+pub use std_streams::{HeldStreams, hold_streams};
+pub use super_words::ImageSizes;
+pub use word_faults::{WordFault, word_fault};
+pub use words::{image_beside, is_asked_for, take_new};
+
+/// The disk over an open file.
+pub type FileDisk = file_disk::FileDisk<file_disk::PageFile>;

@@ -2,7 +2,9 @@
 
 ghost use Rattle.std.specs.Prelude.{◌≡◌, ◌<◌, ◌≤◌, IfOk, false, length, []};
 
+use crate::failure::{CallFailure, SystemCall};
 use blob_tool::{Sink, SinkFault};
+use std::io;
 use std::io::{ErrorKind, Write};
 use std::marker::Model;
 
@@ -12,6 +14,7 @@ use std::marker::Model;
 pub struct StdSink<W: Write + Drop> {
     writer: W,
     faults: u64,
+    failure: Option<CallFailure>,
 }
 
 impl<W: Write + Drop> Model for StdSink<W> {
@@ -27,7 +30,16 @@ impl<W: Write + Drop> StdSink<W> {
     pub fn new(writer: W) -> StdSink<W>
         ensures { result ≡ 0 }
     {
-        StdSink { writer, faults: 0 }
+        StdSink {
+            writer,
+            faults: 0,
+            failure: None,
+        }
+    }
+
+    /// The last write that failed, if one did.
+    pub fn failure(&self) -> Option<CallFailure> {
+        self.failure
     }
 }
 
@@ -39,16 +51,20 @@ impl<W: Write + Drop> Sink for StdSink<W> {
     ghost faults = { λ s. s };
 
     fn write(&mut self, from: &[u8]) -> Result<usize, SinkFault> {
-        let result = write_some(&mut self.writer, from);
-        if result.is_err() {
-            self.faults = self.faults.saturating_add(1);
+        match write_some(&mut self.writer, from) {
+            Ok(count) => Ok(count),
+            Err(error) => {
+                self.faults = self.faults.saturating_add(1);
+                let call = SystemCall::WriteOutput;
+                self.failure = Some(CallFailure { call, error });
+                Err(SinkFault)
+            }
         }
-        result
     }
 }
 
 /// Writes again where a signal cut the write off.
-fn write_some<W: Write>(writer: &mut W, from: &[u8]) -> Result<usize, SinkFault>
+fn write_some<W: Write>(writer: &mut W, from: &[u8]) -> io::Result<usize>
     ensures within { IfOk result (λ n. n ≤ length from.now) }
     ensures moves { IfOk result (λ n. 0 < length from.now → 0 < n) }
 {
@@ -58,24 +74,23 @@ fn write_some<W: Write>(writer: &mut W, from: &[u8]) -> Result<usize, SinkFault>
                 return if from.is_empty() {
                     Ok(0)
                 } else {
-                    Err(SinkFault)
+                    Err(io::Error::from(ErrorKind::WriteZero))
                 };
             }
             Ok(count) => return Ok(count),
             Err(error) => {
                 if error.kind() != ErrorKind::Interrupted {
-                    return Err(SinkFault);
+                    return Err(error);
                 }
             }
         }
     }
-    Err(SinkFault)
+    Err(io::Error::from(ErrorKind::Interrupted))
 }
 
 #[cfg(test)]
 mod tests {
     use super::*;
-    use std::io;
     use std::test::Fail;
 
     /// Takes one byte a write, after a write that a signal cut off; fails at the third, and takes nothing after.

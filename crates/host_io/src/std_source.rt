@@ -2,7 +2,9 @@
 
 ghost use Rattle.std.specs.Prelude.{◌≡◌, ◌≤◌, IfOk, false, length, []};
 
+use crate::failure::{CallFailure, SystemCall};
 use blob_tool::{Source, SourceFault};
+use std::io;
 use std::io::{ErrorKind, Read};
 use std::marker::Model;
 
@@ -11,6 +13,7 @@ use std::marker::Model;
 pub struct StdSource<R: Read + Drop> {
     reader: R,
     faults: u64,
+    failure: Option<CallFailure>,
 }
 
 impl<R: Read + Drop> Model for StdSource<R> {
@@ -26,7 +29,21 @@ impl<R: Read + Drop> StdSource<R> {
     pub fn new(reader: R) -> StdSource<R>
         ensures { result ≡ 0 }
     {
-        StdSource { reader, faults: 0 }
+        StdSource {
+            reader,
+            faults: 0,
+            failure: None,
+        }
+    }
+
+    /// The reader.
+    pub fn reader(&self) -> &R {
+        &self.reader
+    }
+
+    /// The last read that failed, if one did.
+    pub fn failure(&self) -> Option<CallFailure> {
+        self.failure
     }
 }
 
@@ -38,16 +55,20 @@ impl<R: Read + Drop> Source for StdSource<R> {
     ghost faults = { λ s. s };
 
     fn read(&mut self, into: &mut [u8]) -> Result<usize, SourceFault> {
-        let result = read_some(&mut self.reader, into);
-        if result.is_err() {
-            self.faults = self.faults.saturating_add(1);
+        match read_some(&mut self.reader, into) {
+            Ok(count) => Ok(count),
+            Err(error) => {
+                self.faults = self.faults.saturating_add(1);
+                let call = SystemCall::ReadInput;
+                self.failure = Some(CallFailure { call, error });
+                Err(SourceFault)
+            }
         }
-        result
     }
 }
 
 /// Reads again where a signal cut the read off.
-fn read_some<R: Read>(reader: &mut R, into: &mut [u8]) -> Result<usize, SourceFault>
+fn read_some<R: Read>(reader: &mut R, into: &mut [u8]) -> io::Result<usize>
     ensures { IfOk result (λ n. n ≤ length into.new) }
 {
     for _ in 0..u64::MAX {
@@ -55,18 +76,17 @@ fn read_some<R: Read>(reader: &mut R, into: &mut [u8]) -> Result<usize, SourceFa
             Ok(count) => return Ok(count),
             Err(error) => {
                 if error.kind() != ErrorKind::Interrupted {
-                    return Err(SourceFault);
+                    return Err(error);
                 }
             }
         }
     }
-    Err(SourceFault)
+    Err(io::Error::from(ErrorKind::Interrupted))
 }
 
 #[cfg(test)]
 mod tests {
     use super::*;
-    use std::io;
 
     /// Gives two bytes a read, after a read that a signal cut off, and fails at the fourth.
     struct Faulty(u8);

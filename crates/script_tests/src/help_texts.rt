@@ -64,6 +64,9 @@ Options:
 Examples:
   blobtool format store.img --cluster 16384 --md-pages 16
   blobtool format store.img --lvol store0 --uuid 5f2b4e66-0d0c-4c1e-9a55-3f0a7c2d9b10
+
+Warning: what is in the file is lost. With the option --new a file that has a
+store already is refused.
 ";
 
 const LIST: &str = "Prints a store and its volumes, and writes nothing
