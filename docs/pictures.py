@@ -54,6 +54,7 @@ CRATES = {
     "lvol_store": (3, 3, 5), "thin_write": (5, 5, 5), "store_format": (1, 1, 5),
     "unclean_load": (2, 2, 6), "data_path": (5, 5, 6), "blob_report": (6, 6, 6),
     "store_core": (4, 4, 7), "run_moves": (6, 6, 7), "job_begins": (4, 4, 8),
+    "insert_runs": (6, 6, 8),
     "channel_turns": (3, 3, 9), "metadata_turns": (4, 4, 9), "repair_runs": (6, 6, 9), "clean_images": (6, 6, 10), "running_store": (3, 4, 10),
     "md_queue": (1, 1, 11), "io_freeze": (3, 3, 11), "store_model": (4, 4, 11),
     "md_chain": (2, 2, 12), "pools": (4, 4, 12), "shown_volumes": (6, 6, 12),
@@ -61,6 +62,7 @@ CRATES = {
     "clean_stop": (4, 4, 15), "descriptors": (1, 1, 16), "super_block": (3, 3, 16), "page_runs": (4, 4, 16),
     "run_work": (6, 6, 16),
     "volume_model": (1, 1, 17), "page_fields": (3, 3, 17), "bit_array": (4, 4, 17),
+    "file_disk": (6, 6, 17),
     "page_disk": (2, 6, 18), "out_of_memory": (1, 2, 19), "crc32c": (3, 6, 19),
 }
 BANDS = [
