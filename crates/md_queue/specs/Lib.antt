@@ -1,2 +1,4 @@
 pub mod Calls
+pub mod Delivery
 pub mod Queue
+pub mod QueueEnds

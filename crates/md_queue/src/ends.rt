@@ -4,6 +4,9 @@ ghost use Rattle.std.specs.Prelude.{◌≡◌, ℕ, ◌↔◌, List, [], ◌∷�
 
 use volume_model::Msg;
 
+/// How many messages a queue holds at most.
+pub const CAPACITY: usize = 8;
+
 /// The end of a queue where messages are sent. Several outboxes may fill one queue, so what is promised here speaks of
 /// an outbox's own messages. One that fills its queue alone says by `accepts` and `was_full` what the queue holds.
 pub trait Outbox {

@@ -2,15 +2,12 @@
 
 ghost use Rattle.std.specs.Prelude.{◌≡◌, []};
 
-use crate::ends::{Inbox, Outbox};
+use crate::ends::{CAPACITY, Inbox, Outbox};
 use crate::message_list::MessageList;
 use std::marker::Model;
 use volume_model::Msg;
 
-// How many messages a queue holds at most.
-const CAPACITY: usize = 8;
-
-/// A queue of at most eight messages that one thread fills and empties, so it is both ends. It serves all channels.
+/// A queue of at most `CAPACITY` messages that one thread fills and empties, so it is both ends. It serves all channels.
 /// Contracts see the list of its messages, the oldest first. No call takes memory.
 #[derive(Drop)]
 pub struct ListQueue {
@@ -37,7 +34,8 @@ impl ListQueue {
     }
 }
 
-/// A message stands behind the others once it is sent. It is handed back exactly where eight are held.
+/// A message stands behind the others once it is sent. It is handed back exactly where `CAPACITY` are
+/// held.
 impl Outbox for ListQueue {
     ghost use Rattle.std.specs.Prelude.{⊤};
     ghost use Rattle.md_queue.specs.Queue.{Appends, HasNoRoom};

@@ -1,0 +1,5 @@
+use Rattle.std.proofs.Common.{◌≡◌}
+use Rattle.queue_tests.proofs.full_queue.first_refused.Given as goal
+
+abbrev pub invariant-loop-serial : goal.invariant-loop-serial
+invariant-loop-serial g l = record { line : l.sender.line ≡ l.fn.sender.line; channel : l.sender.channel ≡ 0 }
