@@ -29,7 +29,7 @@ use Rattle.md_thread.proofs.RowSteps.{row_steps}
 -- ---- each turn is one of a kind
 
 module _ (told : Bool) (p q : StoreState) (channel : ℕ) where
-  channel_kind : ChannelTurn told p q channel → SomeTurn told p q
+  pub channel_kind : ChannelTurn told p q channel → SomeTurn told p q
   channel_kind (turns.reads t is) = (kind.reads, t)
   channel_kind (turns.refuses_write t is) = (kind.refuses_write, t)
   channel_kind (turns.writes_page t is) = (kind.writes_page, t)
@@ -48,7 +48,7 @@ module _ (told : Bool) (p q : StoreState) (channel : ℕ) where
   channel_kind (turns.ends t is) = (kind.ends, t)
   channel_kind (turns.halts t is itself) = (kind.halts, t)
 
-  posting_kind : PostingTurn told p q channel → SomeTurn told p q
+  pub posting_kind : PostingTurn told p q channel → SomeTurn told p q
   posting_kind (turns.posts t is) = (kind.posts, t)
   posting_kind (turns.sends t is) = (kind.sends, t)
 

@@ -8,6 +8,7 @@ pub mod Schedules
 pub mod Acting
 pub mod StepsMade
 pub mod Keeping
+mod Leading
 pub mod Stepping
 pub mod MetadataActing
 pub mod Ending

@@ -30,6 +30,7 @@ impl Model for Channel {
 
 impl Channel {
     ghost use Rattle.std.specs.Prelude.{◌≡◌, ◌<◌, ◌↔◌, ℕ, ◌++◌, ◌∷◌, [], Some, None};
+    ghost use Rattle.md_thread.specs.Leading.{TurnsOnceOrStays};
     ghost use Rattle.md_thread.specs.declared.state.Next.TheVariants as next;
     ghost use Rattle.md_thread.specs.declared.state.Turn.TheVariants.{Idle, Moved};
     ghost use Rattle.channels.specs.ChannelState.{channel_at, has_ended_at, message_of, next_step_of, sent_at};
@@ -85,6 +86,7 @@ impl Channel {
             (state_of D.PageDisk plant.new.at) self.old.channel self.new.unsent }
         ensures idle { result ≡ Idle → IsHeldUp (state_of D.PageDisk plant.old.at) self.old.channel }
         ensures unchanged { result ≡ Idle → (plant.new ≡ plant.old) × (self.new.unsent ≡ None) }
+        ensures leads { TurnsOnceOrStays D.tells (state_of D.PageDisk plant.old.at) (state_of D.PageDisk plant.new.at) }
         ensures ended { self.new.ended ≡ has_ended_at (is_stage (rows_of plant.new.at.rows self.old.channel)
             self.old.channel) }
         ensures channel { self.new.channel ≡ self.old.channel }

@@ -1,15 +1,13 @@
 //! The driver of a stepwise run: the store, its channels and the metadata thread, and the queue between them.
 
 ghost use Rattle.std.specs.Prelude.{◌≡◌, ◌<◌, length};
-ghost use Rattle.running_store.specs.Stages.{is_stage};
-ghost use Rattle.running_store.specs.StoreView.{rows_of, state_of};
+ghost use Rattle.running_store.specs.StoreView.{state_of};
 ghost use Rattle.store_model.specs.Repairing.{IsRepaired};
 ghost use Rattle.run_work.specs.Following.{ChannelActs, MetadataActs, Round, Scheduled};
 ghost use Rattle.run_moves.specs.DrivenStore.{driven_at_start};
 ghost use Rattle.run_moves.specs.DriverSteps.{has_all_ended, DriverStep, StoreFollows};
 ghost use Rattle.channels.specs.Actors.{actor_in_run, actors_in_run};
-ghost use Rattle.channels.specs.ChannelState.{starting_at};
-ghost use Rattle.channels.specs.Driving.{driven, AreChannelsOf, AreStarting, IsDriven, IsOfSameStore, KeepsFill};
+ghost use Rattle.channels.specs.Driving.{driven, AreChannelsOf, IsDriven, IsOfSameStore, KeepsFill};
 ghost use Rattle.channels.specs.Driving.{StillKeepsFill, Steps};
 ghost use Rattle.channels.specs.QueueLooks.{LooksIntoQueue};
 ghost use Rattle.md_thread.specs.declared.state.Turn.TheVariants.{Idle, Moved};
@@ -17,6 +15,7 @@ ghost use Rattle.script_lang.specs.Schedules.{repeated};
 
 use crate::channel::Channel;
 use crate::channel_step::channel_step;
+use crate::first_channels::channels_of;
 use md_queue::ListQueue;
 use md_thread::{MdState, Turn, fill_row_is_over, have_ended};
 use page_disk::PageDisk;
@@ -24,7 +23,7 @@ use run_moves::{rows_stay_plain, steps_are_moves};
 use run_work::{moves_keep_facts, rounds_end, what_is_due};
 use script_lang::{Actor, Part, Schedule};
 use std::alloc::Global;
-use store_core::{MdRight, Plant, RowStage};
+use store_core::{MdRight, Plant};
 use store_model::state_turns;
 
 /// A running store and what drives it.
@@ -34,28 +33,6 @@ pub(crate) struct Driver<D: PageDisk> {
     channels: [Channel; 16],
     metadata: MdState,
     queue: ListQueue,
-}
-
-/// A channel at the stage of its row. The message of the command that slots are filled for is sent.
-fn channel_on<D: PageDisk>(plant: &Plant<D>, channel: u8) -> Channel
-    ensures { result ≡ starting_at plant.now.at.filling channel
-        (is_stage (rows_of plant.now.at.rows channel) channel) }
-{
-    match plant.filled_channel() {
-        Some(filled) if filled == channel => Channel::sent(channel),
-        _ => Channel::new(channel, plant.stage(channel)),
-    }
-}
-
-/// The channels of a store.
-fn channels_of<D: PageDisk>(plant: &Plant<D>) -> [Channel; 16]
-    ensures { AreStarting plant.now.at.filling plant.now.at.rows result }
-{
-    let mut channels = [Channel::new(0, RowStage::Ended); 16];
-    for channel in 0..16 {
-        channels[usize::from(channel)] = channel_on(plant, channel);
-    }
-    channels
 }
 
 impl<D: PageDisk> Driver<D> {

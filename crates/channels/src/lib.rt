@@ -5,8 +5,10 @@
 mod channel;
 mod channel_step;
 mod driver;
+mod first_channels;
 mod own_turn;
 mod stepwise;
 
 pub use channel::Channel;
+pub use first_channels::channels_of;
 pub use stepwise::{RunEnd, run_stepwise};

@@ -1,6 +1,7 @@
 //! A run by a schedule, a step at a time.
 
 ghost use Rattle.std.specs.Prelude.{◌≡◌, ℕ, ◌<◌, None, length};
+ghost use Rattle.md_thread.specs.Leading.{Leads};
 ghost use Rattle.store_model.specs.Filling.{unused_row};
 ghost use Rattle.store_model.specs.Rows.{fill_row};
 ghost use Rattle.store_model.specs.Repairing.{IsRepaired};
@@ -16,13 +17,15 @@ use std::alloc::Global;
 use store_core::{MdRight, Plant};
 use store_model::state_turns;
 
-/// How a run ended: all channels have, each with all its commands answered.
+/// How a run ended. But for want of memory all channels have, each with all its commands answered.
 #[derive(Clone, Copy, Debug, PartialEq, Eq)]
 pub enum RunEnd {
     /// No write or flush failed.
     Ended,
     /// One failed, in the turn behind so many entries; commands behind it were answered that the store has stopped.
     Stopped(u32),
+    /// Memory ran out before its first step: nothing was done. No run a step at a time ends so.
+    Memory,
 }
 
 /// Runs a store, of which nothing is left to repair, to its end: the steps of a schedule, and then rounds of channels 0
@@ -40,6 +43,7 @@ pub fn run_stepwise<D: PageDisk>(
     requires repaired { IsRepaired (state_of D.PageDisk plant.at) }
     ensures follows { RunsStepwise D.tells (actors_in_run schedule.now) (state_of D.PageDisk plant.at)
         (state_of D.PageDisk result.0.at) }
+    ensures leads { Leads D.tells (state_of D.PageDisk plant.at) (state_of D.PageDisk result.0.at) }
     ensures ended { (channel : ℕ) → channel < 16 → rows_of result.0.at.rows channel ≡ ended_row }
     ensures unused { rows_of result.0.at.rows fill_row ≡ unused_row }
     ensures no_job { result.0.at.job ≡ None }

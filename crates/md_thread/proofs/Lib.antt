@@ -3,6 +3,7 @@ mod PlannedAttributes
 pub mod PlannedSlots
 mod MessageTurns
 pub mod TurnsRepaired
+pub mod Leading
 mod RowsLeft
 pub mod StepsDue
 mod StepsMade

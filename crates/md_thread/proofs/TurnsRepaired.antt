@@ -10,6 +10,8 @@ use Rattle.store_model.specs.StateLaws.{StateLaws}
 use Rattle.store_model.specs.StoreState.{StoreState}
 use Rattle.store_core.specs.StoreInvariant.{StoreInvariant}
 use Rattle.running_store.specs.StoreView.{state_of, WithOpening}
+use Rattle.md_thread.specs.Leading as once
+use Rattle.md_thread.specs.Leading.{TurnsOnceOrStays}
 use Rattle.run_moves.specs.DriverSteps as turns
 use Rattle.run_moves.specs.DriverSteps.{JobTurn, ServingTurn}
 
@@ -17,6 +19,9 @@ use Rattle.run_moves.specs.DriverSteps.{JobTurn, ServingTurn}
 
 abbrev pub SomeTurn : Bool → StoreState → StoreState → Type 0
 SomeTurn told p q = (k : Kind) × Turn told p k q
+
+pub led : (told : Bool) (p q : StoreState) → SomeTurn told p q → TurnsOnceOrStays told p q
+led told p q t = once.turns t.0 t.1
 
 pub serving_kind : (told : Bool) (p q : StoreState) (channel : ℕ) → ServingTurn told p q channel → SomeTurn told p q
 serving_kind told p q channel (turns.answers t is) = (kind.answers, t)

@@ -1,3 +1,4 @@
-pub mod Tasks
 pub mod Holding
+pub mod Leading
+pub mod Tasks
 pub mod Turns

@@ -1,6 +1,7 @@
 //! The turns of a fill.
 
 ghost use Rattle.std.specs.Prelude.{◌≡◌, ◌<◌, ℕ, None, Some};
+ghost use Rattle.md_thread.specs.Leading.{TurnsOnceOrStays};
 ghost use Rattle.md_thread.specs.Tasks.{FillMoves};
 ghost use Rattle.running_store.specs.Requests.{IsPostedBy};
 ghost use Rattle.running_store.specs.Stages.{is_stage};
@@ -30,6 +31,7 @@ fn between_slots<D: PageDisk>(
     requires repaired { IsRepaired (state_of D.PageDisk plant.old.at) }
     ensures moves { msg.channel < 16 → IsPostedBy plant.old.at.rows msg
         → FillMoves D.tells (state_of D.PageDisk plant.old.at) (state_of D.PageDisk plant.new.at) msg.channel result }
+    ensures leads { TurnsOnceOrStays D.tells (state_of D.PageDisk plant.old.at) (state_of D.PageDisk plant.new.at) }
     ensures repaired { IsRepaired (state_of D.PageDisk plant.new.at) }
     ensures opening { plant.new.opening ≡ plant.old.opening }
     ensures right { (right.new ≡ right.old) × (plant.new.right ≡ plant.old.right) }
@@ -56,6 +58,7 @@ pub(crate) fn fill_turn<D: PageDisk>(
     ensures moves { msg.channel < 16 → IsPostedBy plant.old.at.rows msg
         → ((channel : ℕ) → plant.old.at.filling ≡ Some channel → channel ≡ msg.channel)
         → FillMoves D.tells (state_of D.PageDisk plant.old.at) (state_of D.PageDisk plant.new.at) msg.channel result }
+    ensures leads { TurnsOnceOrStays D.tells (state_of D.PageDisk plant.old.at) (state_of D.PageDisk plant.new.at) }
     ensures repaired { IsRepaired (state_of D.PageDisk plant.new.at) }
     ensures opening { plant.new.opening ≡ plant.old.opening }
     ensures right { (right.new ≡ right.old) × (plant.new.right ≡ plant.old.right) }

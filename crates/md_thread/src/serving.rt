@@ -2,6 +2,7 @@
 
 ghost use Rattle.std.specs.Prelude.{◌≡◌, ◌≢◌, ◌<◌, None};
 ghost use Rattle.channel_turns.specs.FillTurns.{IsNextToFill};
+ghost use Rattle.md_thread.specs.Leading.{TurnsOnceOrStays};
 ghost use Rattle.md_thread.specs.Tasks.{FillMoves, ServesMessage};
 ghost use Rattle.md_thread.specs.declared.serving.Served.TheVariants.{Done};
 ghost use Rattle.running_store.specs.Requests.{IsPostedBy};
@@ -54,6 +55,7 @@ pub(crate) fn claim_slot<D: PageDisk>(
         (λ command. IsNextToFill (state_of D.PageDisk plant.old.at) command slot) }
     ensures moves { FillMoves D.tells (state_of D.PageDisk plant.old.at) (state_of D.PageDisk plant.new.at) msg.channel
         result }
+    ensures leads { TurnsOnceOrStays D.tells (state_of D.PageDisk plant.old.at) (state_of D.PageDisk plant.new.at) }
     ensures repaired { IsRepaired (state_of D.PageDisk plant.new.at) }
     ensures opening { plant.new.opening ≡ plant.old.opening }
     ensures right { (right.new ≡ right.old) × (plant.new.right ≡ plant.old.right) }
@@ -84,6 +86,7 @@ pub(crate) fn serve<D: PageDisk>(
         → ServesMessage D.PageDisk plant.old.at plant.new.at msg.channel result }
     ensures stale { (rows_of plant.old.at.rows msg.channel).stage ≢ Posted msg.serial
         → (plant.new ≡ plant.old) × (result ≡ Done) }
+    ensures leads { TurnsOnceOrStays D.tells (state_of D.PageDisk plant.old.at) (state_of D.PageDisk plant.new.at) }
     ensures repaired { IsRepaired (state_of D.PageDisk plant.new.at) }
     ensures opening { plant.new.opening ≡ plant.old.opening }
     ensures right { (right.new ≡ right.old) × (plant.new.right ≡ plant.old.right) }

@@ -76,6 +76,7 @@ impl MdState {
     ghost use Rattle.store_model.specs.Rows.{fill_row};
     ghost use Rattle.md_thread.specs.declared.state.Next.TheVariants as on;
     ghost use Rattle.md_thread.specs.declared.state.Turn.TheVariants.{Moved};
+    ghost use Rattle.md_thread.specs.Leading.{TurnsOnceOrStays};
     ghost use Rattle.md_thread.specs.Holding.{at_first, ComesNext, IsHeldOn, IsKept, LooksForMessage, looks_first};
     ghost use Rattle.md_thread.specs.Holding.{MakesStep, MetadataState, without_next};
     ghost use Rattle.run_moves.specs.DrivenStore.{message_filled_for};
@@ -201,6 +202,7 @@ impl MdState {
             → (rows_of plant.old.at.rows msg.channel).stage ≢ Posted msg.serial
             → (result ≡ Moved) × (plant.new ≡ plant.old)
             × (self.new ≡ record (without_next self.old) { found_none = false; next = self.new.next }) }
+        ensures leads { TurnsOnceOrStays D.tells (state_of D.PageDisk plant.old.at) (state_of D.PageDisk plant.new.at) }
         ensures repaired { IsRepaired (state_of D.PageDisk plant.new.at) }
         ensures opening { plant.new.opening ≡ plant.old.opening }
         ensures right { (right.new ≡ right.old) × (plant.new.right ≡ plant.old.right) }

@@ -41,6 +41,7 @@ module _ {D : Type 0} (d : Ghosts D) (laws : CrashLaws)
       record {
         began = opens;
         faultless = faultless;
+        first_facts = facts;
         run = ([], refl);
         facts = facts;
         placed = placed;
@@ -87,6 +88,7 @@ module _ {D : Type 0} (d : Ghosts D) (laws : CrashLaws)
     kept_goes_on images = record {
       began = kept.began;
       faultless = kept.faultless;
+      first_facts = kept.first_facts;
       run = (
         kept.run.0 ++ kind ∷ [],
         laws.plants.go_on d.tells (state_of d p.opening) (state_of d p.at)

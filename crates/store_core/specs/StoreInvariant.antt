@@ -26,12 +26,14 @@ pub record OpensAsRead {D : Type 0} (d : Ghosts D) (p : StoreView D) : Type 0 wh
   pub holds : HoldsMetadata p.super (base_of p.metas p.marked) (map.get p.chains) (d.now p.disk)
 
 -- It began with nothing logged, on a super block without fault, and with each volume's name and uuid on the disk as
--- they are read; turns led from there to here, and the state has what every state of a run has; and where it was read
--- as its one image says, power may fail at any moment, and as long as the store is clean leaves the fixed clusters as
--- they were.
+-- they are read; turns led from there to here, and both states have what every state of a run has; and where it was
+-- read as its one image says, power may fail at any moment, and as long as the store is clean leaves the fixed clusters
+-- as they were.
 pub record StoreInvariant {D : Type 0} (d : Ghosts D) (p : WithOpening D) : Type 0 where
   pub began : Opens (state_of d p.opening)
   pub faultless : IsFaultless p.opening.super
+  pub first_facts : RunInvariant p.opening.super (shown (state_of d p.opening)) (opening_script p.opening)
+      (state_of d p.opening)
   pub run : (kinds : List Kind) × Run d.tells (state_of d p.opening) kinds (state_of d p.at)
   pub facts : RunInvariant p.opening.super (shown (state_of d p.opening)) (opening_script p.opening) (state_of d p.at)
   pub placed : IsPlaced p.opening.super

@@ -5,6 +5,7 @@ use std::sync::ledger::Blank;
 
 /// Who has it may change the metadata and the live attributes of its store. `Plant::start` alone makes one, for the
 /// store that it makes; it can't be copied. Contracts see its name, which no other right has.
+#[derive(Drop)]
 pub struct MdRight {
     name: Blank,
 }

@@ -9,6 +9,7 @@ use volume_model::Msg;
 impl MdState {
     ghost use Rattle.std.specs.Prelude.{◌≡◌, None, Some, IsSome};
     ghost use Rattle.md_thread.specs.Holding.{IsHeldOn, IsKept};
+    ghost use Rattle.md_thread.specs.Leading.{TurnsOnceOrStays};
     ghost use Rattle.md_thread.specs.Turns.{JobMade};
     ghost use Rattle.metadata_turns.specs.JobTurns.{TurnsJob};
     ghost use Rattle.run_moves.specs.FillTurns.{held_beside, worked_for};
@@ -29,6 +30,7 @@ impl MdState {
             → JobMade D.tells (state_of D.PageDisk plant.old.at) (state_of D.PageDisk plant.new.at) self.old self.new }
         ensures asked { IsKept D.PageDisk plant.old.at self.old → (msg : AMsg) → self.new.fill ≡ Some msg
             → IsFilledFor (rows_of plant.new.at.rows msg.channel) }
+        ensures leads { TurnsOnceOrStays D.tells (state_of D.PageDisk plant.old.at) (state_of D.PageDisk plant.new.at) }
         ensures repaired { IsRepaired (state_of D.PageDisk plant.new.at) }
         ensures opening { plant.new.opening ≡ plant.old.opening }
         ensures right { (right.new ≡ right.old) × (plant.new.right ≡ plant.old.right) }

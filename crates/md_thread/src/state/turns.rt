@@ -14,6 +14,7 @@ use volume_model::Msg;
 impl MdState {
     ghost use Rattle.std.specs.Prelude.{◌≡◌, ◌≢◌, ◌⊎◌, ◌<◌, List, [], ◌∷◌, None, Some, false, true, length, nat_lt};
     ghost use Rattle.std.specs.Prelude.{◌↔◌, IsFalse, IsSome, IsTrue};
+    ghost use Rattle.md_thread.specs.Leading.{TurnsOnceOrStays};
     ghost use Rattle.md_thread.specs.Holding.{ComesNext, IsHeldOn, IsKept, LooksForMessage, looks_first, MakesStep};
     ghost use Rattle.md_thread.specs.Holding.{without_next};
     ghost use Rattle.md_thread.specs.Turns.{ActsNow, HasJoined, ServiceMade};
@@ -68,6 +69,7 @@ impl MdState {
             → self.old.fill ≡ None → (msg : AMsg) → ComesNext self.old msg
             → (rows_of plant.old.at.rows msg.channel).stage ≢ Posted msg.serial
             → (result ≡ Moved) × (plant.new ≡ plant.old) × (self.new ≡ without_next self.old) }
+        ensures leads { TurnsOnceOrStays D.tells (state_of D.PageDisk plant.old.at) (state_of D.PageDisk plant.new.at) }
         ensures repaired { IsRepaired (state_of D.PageDisk plant.new.at) }
         ensures opening { plant.new.opening ≡ plant.old.opening }
         ensures right { (right.new ≡ right.old) × (plant.new.right ≡ plant.old.right) }
@@ -117,6 +119,7 @@ impl MdState {
         ensures stale { self.old.fill ≡ None → (msg : AMsg) → ComesNext self.old msg
             → (rows_of plant.old.at.rows msg.channel).stage ≢ Posted msg.serial
             → (result ≡ Moved) × (plant.new ≡ plant.old) × (self.new ≡ without_next self.old) }
+        ensures leads { TurnsOnceOrStays D.tells (state_of D.PageDisk plant.old.at) (state_of D.PageDisk plant.new.at) }
         ensures repaired { IsRepaired (state_of D.PageDisk plant.new.at) }
         ensures opening { plant.new.opening ≡ plant.old.opening }
         ensures right { (right.new ≡ right.old) × (plant.new.right ≡ plant.old.right) }
@@ -200,6 +203,7 @@ impl MdState {
             → IsFilledFor (rows_of plant.new.at.rows other.channel) }
         ensures stale { (rows_of plant.old.at.rows msg.channel).stage ≢ Posted msg.serial
             → (plant.new ≡ plant.old) × (self.new ≡ self.old) }
+        ensures leads { TurnsOnceOrStays D.tells (state_of D.PageDisk plant.old.at) (state_of D.PageDisk plant.new.at) }
         ensures repaired { IsRepaired (state_of D.PageDisk plant.new.at) }
         ensures opening { plant.new.opening ≡ plant.old.opening }
         ensures right { (right.new ≡ right.old) × (plant.new.right ≡ plant.old.right) }
@@ -240,6 +244,7 @@ impl MdState {
         ensures stale { self.old.fill ≡ None → (msg : AMsg) → (rest : List AMsg) → self.old.waiting ≡ msg ∷ rest
             → (rows_of plant.old.at.rows msg.channel).stage ≢ Posted msg.serial
             → (result ≡ Moved) × (plant.new ≡ plant.old) × (self.new ≡ record self.old { waiting = rest }) }
+        ensures leads { TurnsOnceOrStays D.tells (state_of D.PageDisk plant.old.at) (state_of D.PageDisk plant.new.at) }
         ensures repaired { IsRepaired (state_of D.PageDisk plant.new.at) }
         ensures opening { plant.new.opening ≡ plant.old.opening }
         ensures right { (right.new ≡ right.old) × (plant.new.right ≡ plant.old.right) }

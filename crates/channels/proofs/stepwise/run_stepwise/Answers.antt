@@ -9,6 +9,7 @@ use Rattle.run_moves.specs.DriverSteps.{StoreFollows}
 use Rattle.channels.specs.Actors.{actors_in_run}
 use Rattle.channels.specs.Driving.{driven}
 use Rattle.channels.specs.RunEnds.{ended_row}
+use Rattle.channels.proofs.Leading.{stepwise_leads}
 use Rattle.channels.proofs.Ending.{row_over, row_unused}
 use Rattle.channels.proofs.stepwise.run_stepwise.Goals as goal
 
@@ -21,6 +22,10 @@ returns-clause-follows g c =
       follows = subst (λ (w : DrivenStore). StoreFollows d.tells (actors_in_run c.args.schedule.now) w
           (driven d c.run.new.self)) c.new-driver.ensures.starts c.run.ensures.follows;
     }
+
+pub returns-clause-leads : goal.returns-clause-leads
+returns-clause-leads g c =
+    stepwise_leads g.D.PageDisk.tells (actors_in_run c.args.schedule.now) _ _ (returns-clause-follows g c)
 
 pub returns-clause-ended : goal.returns-clause-ended
 returns-clause-ended g c =

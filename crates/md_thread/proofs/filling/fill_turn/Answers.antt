@@ -13,7 +13,7 @@ use Rattle.md_thread.proofs.FillSteps.{ended_copy, ended_halted, ended_insert, e
 use Rattle.md_thread.proofs.FillSteps.{on_loses, on_loses_copy, on_sends, on_settles}
 use Rattle.md_thread.proofs.SomeTurns.{by_stop, not_halted, some_insert}
 use Rattle.md_thread.proofs.StandsNow.{stands}
-use Rattle.md_thread.proofs.TurnsRepaired.{turned}
+use Rattle.md_thread.proofs.TurnsRepaired.{led, turned}
 use Rattle.md_thread.proofs.filling.fill_turn.Goals as goal
 
 pub returns-in-Lost-clause-moves : goal.returns-in-Lost-clause-moves
@@ -33,6 +33,10 @@ returns-in-Lost-clause-repaired g c =
     turned g.D.PageDisk c.state_turns.ensures c.args.plant.now c.copy_page.new.self c.keeps.ensures
     (kind.loses_copy, (c.copy_page.ensures.lost c.in-Lost.is).0) c.requires.repaired
 
+pub returns-in-Lost-clause-leads : goal.returns-in-Lost-clause-leads
+returns-in-Lost-clause-leads g c =
+    led _ _ _ (kind.loses_copy, (c.copy_page.ensures.lost c.in-Lost.is).0)
+
 pub returns-in-Copied-clause-moves : goal.returns-in-Copied-clause-moves
 returns-in-Copied-clause-moves g c = λ low posted works.
     let d = g.D.PageDisk in
@@ -47,6 +51,10 @@ pub returns-in-Copied-clause-repaired : goal.returns-in-Copied-clause-repaired
 returns-in-Copied-clause-repaired g c =
     turned g.D.PageDisk c.state_turns.ensures c.args.plant.now c.copy_page.new.self c.keeps.ensures
     (kind.copies, (c.copy_page.ensures.copied _ c.in-Copied.is).0) c.requires.repaired
+
+pub returns-in-Copied-clause-leads : goal.returns-in-Copied-clause-leads
+returns-in-Copied-clause-leads g c =
+    led _ _ _ (kind.copies, (c.copy_page.ensures.copied _ c.in-Copied.is).0)
 
 pub returns-in-Logged-clause-moves : goal.returns-in-Logged-clause-moves
 returns-in-Logged-clause-moves g c = λ low posted works.
@@ -66,6 +74,11 @@ returns-in-Logged-clause-repaired g c =
     turned g.D.PageDisk c.state_turns.ensures c.args.plant.now c.copy_page.new.self c.keeps.ensures
     (made.kind, made.made.0) c.requires.repaired
 
+pub returns-in-Logged-clause-leads : goal.returns-in-Logged-clause-leads
+returns-in-Logged-clause-leads g c =
+    let made = c.copy_page.ensures.logged c.in-Logged.is in
+    led _ _ _ (made.kind, made.made.0)
+
 pub returns-in-Post-clause-moves : goal.returns-in-Post-clause-moves
 returns-in-Post-clause-moves g c = λ low posted works.
     let d = g.D.PageDisk in
@@ -82,6 +95,10 @@ pub returns-in-Post-clause-repaired : goal.returns-in-Post-clause-repaired
 returns-in-Post-clause-repaired g c =
     turned g.D.PageDisk c.state_turns.ensures c.args.plant.now c.send_ready.new.self c.keeps.ensures
     (kind.sends, (c.send_ready.ensures.sent _ c.in-Post.is).0) c.requires.repaired
+
+pub returns-in-Post-clause-leads : goal.returns-in-Post-clause-leads
+returns-in-Post-clause-leads g c =
+    led _ _ _ (kind.sends, (c.send_ready.ensures.sent _ c.in-Post.is).0)
 
 pub returns-in-Logged-send_ready-clause-moves : goal.returns-in-Logged-send_ready-clause-moves
 returns-in-Logged-send_ready-clause-moves g c = λ low posted works.
@@ -101,6 +118,11 @@ returns-in-Logged-send_ready-clause-repaired g c =
     let made = c.send_ready.ensures.logged c.in-Logged-send_ready.is in
     turned g.D.PageDisk c.state_turns.ensures c.args.plant.now c.send_ready.new.self c.keeps.ensures
     (made.kind, made.made.0) c.requires.repaired
+
+pub returns-in-Logged-send_ready-clause-leads : goal.returns-in-Logged-send_ready-clause-leads
+returns-in-Logged-send_ready-clause-leads g c =
+    let made = c.send_ready.ensures.logged c.in-Logged-send_ready.is in
+    led _ _ _ (made.kind, made.made.0)
 
 pub returns-in-Began-clause-moves : goal.returns-in-Began-clause-moves
 returns-in-Began-clause-moves g c = λ low posted works.
@@ -158,17 +180,32 @@ returns-in-Began-clause-repaired g c =
     (some_insert g.D.PageDisk c.args.plant.now.at c.begin_insert.new.self.at c.begin_insert.result
     c.in-Posted.own.channel c.begin_insert.ensures.begins c.begin_insert.ensures.halted) c.requires.repaired
 
+pub returns-in-Began-clause-leads : goal.returns-in-Began-clause-leads
+returns-in-Began-clause-leads g c =
+    led _ _ _ (some_insert g.D.PageDisk c.args.plant.now.at c.begin_insert.new.self.at c.begin_insert.result
+    c.in-Posted.own.channel c.begin_insert.ensures.begins c.begin_insert.ensures.halted)
+
 pub returns-in-Decided-begin_insert-clause-repaired : goal.returns-in-Decided-begin_insert-clause-repaired
 returns-in-Decided-begin_insert-clause-repaired g c =
     turned g.D.PageDisk c.state_turns.ensures c.args.plant.now c.begin_insert.new.self c.keeps.ensures
     (some_insert g.D.PageDisk c.args.plant.now.at c.begin_insert.new.self.at c.begin_insert.result
     c.in-Posted.own.channel c.begin_insert.ensures.begins c.begin_insert.ensures.halted) c.requires.repaired
 
+pub returns-in-Decided-begin_insert-clause-leads : goal.returns-in-Decided-begin_insert-clause-leads
+returns-in-Decided-begin_insert-clause-leads g c =
+    led _ _ _ (some_insert g.D.PageDisk c.args.plant.now.at c.begin_insert.new.self.at c.begin_insert.result
+    c.in-Posted.own.channel c.begin_insert.ensures.begins c.begin_insert.ensures.halted)
+
 pub returns-in-Logged-begin_insert-clause-repaired : goal.returns-in-Logged-begin_insert-clause-repaired
 returns-in-Logged-begin_insert-clause-repaired g c =
     turned g.D.PageDisk c.state_turns.ensures c.args.plant.now c.begin_insert.new.self c.keeps.ensures
     (some_insert g.D.PageDisk c.args.plant.now.at c.begin_insert.new.self.at c.begin_insert.result
     c.in-Posted.own.channel c.begin_insert.ensures.begins c.begin_insert.ensures.halted) c.requires.repaired
+
+pub returns-in-Logged-begin_insert-clause-leads : goal.returns-in-Logged-begin_insert-clause-leads
+returns-in-Logged-begin_insert-clause-leads g c =
+    led _ _ _ (some_insert g.D.PageDisk c.args.plant.now.at c.begin_insert.new.self.at c.begin_insert.result
+    c.in-Posted.own.channel c.begin_insert.ensures.begins c.begin_insert.ensures.halted)
 
 pub begin_insert-requires-clause-posted : goal.begin_insert-requires-clause-posted
 begin_insert-requires-clause-posted g c =
@@ -200,6 +237,15 @@ returns-in-Decided-clause-repaired g c =
     let moved : c.settle.result ≢ Waiting = λ e. (c.settle.ensures.waiting e).1 at.0 at.1 in
     turned d c.state_turns.ensures c.args.plant.now c.settle.new.self c.keeps.ensures
     (kind.settles, (c.settle.ensures.settled moved).0) c.requires.repaired
+
+pub returns-in-Decided-clause-leads : goal.returns-in-Decided-clause-leads
+returns-in-Decided-clause-leads g c =
+    let d = g.D.PageDisk in
+    let p = c.args.plant.now.at in
+    let now = stands d c.state_turns.ensures c.args.plant.now c.keeps.ensures in
+    let at = stage_for (rows_of p.rows fill_row) fill_row now.left _ (sym c.stage.ensures ∙ c.in-Decided.is) in
+    let moved : c.settle.result ≢ Waiting = λ e. (c.settle.ensures.waiting e).1 at.0 at.1 in
+    led _ _ _ (kind.settles, (c.settle.ensures.settled moved).0)
 
 pub unreachable-unreachable : goal.unreachable-unreachable
 unreachable-unreachable g c =

@@ -7,7 +7,7 @@ use Rattle.running_store.specs.StoreView.{rows_of}
 use Rattle.super_block.specs.Numbers.{cluster_pages_of}
 use Rattle.run_moves.specs.FillTurns as fill
 use Rattle.md_thread.proofs.MessageTurns.{fill_lacked}
-use Rattle.md_thread.proofs.TurnsRepaired.{turned}
+use Rattle.md_thread.proofs.TurnsRepaired.{led, turned}
 use Rattle.md_thread.proofs.serving.claim_slot.Goals as goal
 
 pub claim_fill-requires-clause-fills : goal.claim_fill-requires-clause-fills
@@ -30,6 +30,13 @@ returns-in-Claimed-clause-repaired g c =
     turned d c.state_turns.ensures c.args.plant.now c.claim_fill.new.self c.keeps.ensures (kind.claims_fill, made.0)
     c.requires.repaired
 
+pub returns-in-Claimed-clause-leads : goal.returns-in-Claimed-clause-leads
+returns-in-Claimed-clause-leads g c =
+    let d = g.D.PageDisk in
+    let made = subst (ClaimsFillOrNot d c.args.plant.now.at c.claim_fill.new.self.at) c.in-Claimed.is
+    (c.claim_fill.ensures.claims c.requires.runs) in
+    led _ _ _ (kind.claims_fill, made.0)
+
 pub returns-in-Logged-clause-moves : goal.returns-in-Logged-clause-moves
 returns-in-Logged-clause-moves g c =
     let d = g.D.PageDisk in
@@ -49,3 +56,10 @@ returns-in-Logged-clause-repaired g c =
     (c.claim_fill.ensures.claims c.requires.runs) in
     turned d c.state_turns.ensures c.args.plant.now c.claim_fill.new.self c.keeps.ensures (kind.lacks_for_fill, made.0)
     c.requires.repaired
+
+pub returns-in-Logged-clause-leads : goal.returns-in-Logged-clause-leads
+returns-in-Logged-clause-leads g c =
+    let d = g.D.PageDisk in
+    let made = subst (ClaimsFillOrNot d c.args.plant.now.at c.claim_fill.new.self.at) c.in-Logged.is
+    (c.claim_fill.ensures.claims c.requires.runs) in
+    led _ _ _ (kind.lacks_for_fill, made.0)

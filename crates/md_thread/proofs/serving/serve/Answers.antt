@@ -6,7 +6,7 @@ use Rattle.running_store.specs.StoreView.{rows_of}
 use Rattle.md_thread.proofs.MessageTurns.{by_answer, by_begin, by_insert, by_refusal, inserting_alone}
 use Rattle.md_thread.proofs.SomeTurns.{some_begin, some_insert, some_logged}
 use Rattle.md_thread.proofs.StandsNow.{posted_filled, unfilled}
-use Rattle.md_thread.proofs.TurnsRepaired.{turned}
+use Rattle.md_thread.proofs.TurnsRepaired.{led, turned}
 use Rattle.md_thread.proofs.serving.serve.Goals as goal
 
 pub returns-in-Insert-clause-turn : goal.returns-in-Insert-clause-turn
@@ -69,12 +69,25 @@ returns-in-Insert-clause-repaired g c =
     c.begin_insert.ensures.begins
     c.begin_insert.ensures.halted) c.requires.repaired
 
+pub returns-in-Insert-clause-leads : goal.returns-in-Insert-clause-leads
+returns-in-Insert-clause-leads g c =
+    let d = g.D.PageDisk in
+    led _ _ _ (some_insert d c.args.plant.now.at c.begin_insert.new.self.at c.begin_insert.result c.args.msg.channel
+    c.begin_insert.ensures.begins
+    c.begin_insert.ensures.halted)
+
 pub returns-in-Answer-clause-repaired : goal.returns-in-Answer-clause-repaired
 returns-in-Answer-clause-repaired g c =
     let d = g.D.PageDisk in
     turned d c.state_turns.ensures c.args.plant.now c.answer.new.self c.keeps.ensures
     (some_logged d c.args.plant.now.at c.answer.new.self.at kind.answers c.answer.ensures.answered
     c.answer.ensures.halted) c.requires.repaired
+
+pub returns-in-Answer-clause-leads : goal.returns-in-Answer-clause-leads
+returns-in-Answer-clause-leads g c =
+    let d = g.D.PageDisk in
+    led _ _ _ (some_logged d c.args.plant.now.at c.answer.new.self.at kind.answers c.answer.ensures.answered
+    c.answer.ensures.halted)
 
 pub returns-in-Refuse-clause-repaired : goal.returns-in-Refuse-clause-repaired
 returns-in-Refuse-clause-repaired g c =
@@ -83,9 +96,21 @@ returns-in-Refuse-clause-repaired g c =
     (some_logged d c.args.plant.now.at c.refuse.new.self.at kind.refuses c.refuse.ensures.refused
     c.refuse.ensures.halted) c.requires.repaired
 
+pub returns-in-Refuse-clause-leads : goal.returns-in-Refuse-clause-leads
+returns-in-Refuse-clause-leads g c =
+    let d = g.D.PageDisk in
+    led _ _ _ (some_logged d c.args.plant.now.at c.refuse.new.self.at kind.refuses c.refuse.ensures.refused
+    c.refuse.ensures.halted)
+
 pub returns-in-Begin-clause-repaired : goal.returns-in-Begin-clause-repaired
 returns-in-Begin-clause-repaired g c =
     let d = g.D.PageDisk in
     turned d c.state_turns.ensures c.args.plant.now c.begin_job.new.self c.keeps.ensures
     (some_begin d c.args.plant.now.at c.begin_job.new.self.at c.begin_job.result c.begin_job.ensures.begins
     c.begin_job.ensures.halted) c.requires.repaired
+
+pub returns-in-Begin-clause-leads : goal.returns-in-Begin-clause-leads
+returns-in-Begin-clause-leads g c =
+    let d = g.D.PageDisk in
+    led _ _ _ (some_begin d c.args.plant.now.at c.begin_job.new.self.at c.begin_job.result c.begin_job.ensures.begins
+    c.begin_job.ensures.halted)

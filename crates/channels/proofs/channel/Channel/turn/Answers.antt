@@ -1,9 +1,12 @@
 use Rattle.std.proofs.Common.{Some, sym, ◌∙◌, ap, subst}
-use Rattle.running_store.specs.StoreView.{state_of}
+use Rattle.running_store.specs.StoreView.{state_of, WithOpening}
 use Rattle.run_moves.specs.DriverSteps.{ChannelTurn, PostingTurn}
 use Rattle.volume_model.specs.declared.reply.Msg.{Msg as AMsg}
 use Rattle.channels.specs.ChannelState.{ChannelState}
 use Rattle.channels.specs.ChannelSteps.{posted, turned, IsHeldUp}
+use Rattle.md_thread.specs.Leading.{stays}
+use Rattle.md_thread.proofs.TurnsRepaired.{led}
+use Rattle.channels.proofs.Keeping.{channel_kind, posting_kind}
 use Rattle.channels.proofs.NextSteps.{nothing_unsent}
 use Rattle.channels.proofs.channel.Channel.turn.Goals.{in-Waiting, in-Again, in-Send}
 use Rattle.channels.proofs.channel.Channel.turn.Goals as goal
@@ -23,6 +26,17 @@ returns-clause-moved g c moved =
           let x = c.own_turn.ensures.posts w.in-Send.msg w.in-Send.is in
           posted (subst (PostingTurn g.D.PageDisk.tells p q) channel x.turn)
           (ap (λ s. s.unsent) w.self-inside-is ∙ ap (λ (m : AMsg). Some m.serial) x.message)
+    ]
+
+pub returns-clause-leads : goal.returns-clause-leads
+returns-clause-leads g c =
+    elim c.match-own_turn.branch [
+      | in-Waiting w ↦
+          stays (ap (λ (x : WithOpening g.row.D.Denot). state_of g.D.PageDisk x.at)
+          (c.own_turn.ensures.waiting w.in-Waiting.is))
+      | in-Again w ↦ led _ _ _ (channel_kind _ _ _ _ (c.own_turn.ensures.turns w.in-Again.is))
+      | in-Send w ↦
+          let x = c.own_turn.ensures.posts w.in-Send.msg w.in-Send.is in led _ _ _ (posting_kind _ _ _ _ x.turn)
     ]
 
 pub returns-clause-idle : goal.returns-clause-idle

@@ -8,7 +8,7 @@ use Rattle.md_thread.specs.Turns.{JobMade}
 use Rattle.md_thread.proofs.JobsMade.{asked_current, held_on, made_current, made_stale, made_without, none_of_both}
 use Rattle.md_thread.proofs.JobsMade.{posted_now, stale_now}
 use Rattle.md_thread.proofs.StandsNow.{stands}
-use Rattle.md_thread.proofs.TurnsRepaired.{turned}
+use Rattle.md_thread.proofs.TurnsRepaired.{led, turned}
 use Rattle.md_thread.proofs.state.MdState.job_turn.Goals as goal
 
 pub returns-then-is_err-clause-turn : goal.returns-then-is_err-clause-turn
@@ -89,14 +89,29 @@ returns-then-is_err-clause-repaired g c =
     turned g.D.PageDisk c.state_turns.ensures c.args.plant.now c.job_turn.new.self c.keeps.ensures
     (turn.kind, turn.made.0) c.requires.repaired
 
+pub returns-then-is_err-clause-leads : goal.returns-then-is_err-clause-leads
+returns-then-is_err-clause-leads g c =
+    let turn = c.job_turn.ensures.case in
+    led _ _ _ (turn.kind, turn.made.0)
+
 pub returns-else-is_err-clause-repaired : goal.returns-else-is_err-clause-repaired
 returns-else-is_err-clause-repaired g c =
     let turn = c.job_turn.ensures.case in
     turned g.D.PageDisk c.state_turns.ensures c.args.plant.now c.job_turn.new.self c.keeps.ensures
     (turn.kind, turn.made.0) c.requires.repaired
 
+pub returns-else-is_err-clause-leads : goal.returns-else-is_err-clause-leads
+returns-else-is_err-clause-leads g c =
+    let turn = c.job_turn.ensures.case in
+    led _ _ _ (turn.kind, turn.made.0)
+
 pub returns-in_default-clause-repaired : goal.returns-in_default-clause-repaired
 returns-in_default-clause-repaired g c =
     let turn = c.job_turn.ensures.case in
     turned g.D.PageDisk c.state_turns.ensures c.args.plant.now c.job_turn.new.self c.keeps.ensures
     (turn.kind, turn.made.0) c.requires.repaired
+
+pub returns-in_default-clause-leads : goal.returns-in_default-clause-leads
+returns-in_default-clause-leads g c =
+    let turn = c.job_turn.ensures.case in
+    led _ _ _ (turn.kind, turn.made.0)

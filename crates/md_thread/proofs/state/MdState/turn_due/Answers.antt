@@ -9,7 +9,7 @@ use Rattle.md_thread.specs.Holding.{MetadataState}
 use Rattle.md_thread.proofs.StandsNow.{stands}
 use Rattle.md_thread.proofs.StepsDue.{used}
 use Rattle.md_thread.proofs.StepsMade.{by_closing, by_job, none_of, some_of}
-use Rattle.md_thread.proofs.TurnsRepaired.{turned}
+use Rattle.md_thread.proofs.TurnsRepaired.{led, turned}
 use Rattle.md_thread.proofs.state.MdState.turn_due.Goals as goal
 
 -- no job is there where one runs
@@ -40,6 +40,10 @@ pub returns-then-not-fill_row_is_over-clause-repaired : goal.returns-then-not-fi
 returns-then-not-fill_row_is_over-clause-repaired g c =
     turned g.D.PageDisk c.state_turns.ensures c.args.plant.now c.end_fill.new.self c.keeps.ensures
     (kind.ends_fill, c.end_fill.ensures.case.0) c.requires.repaired
+
+pub returns-then-not-fill_row_is_over-clause-leads : goal.returns-then-not-fill_row_is_over-clause-leads
+returns-then-not-fill_row_is_over-clause-leads g c =
+    led _ _ _ (kind.ends_fill, c.end_fill.ensures.case.0)
 
 pub returns-then-job_runs-clause-stale : goal.returns-then-job_runs-clause-stale
 returns-then-job_runs-clause-stale g c = λ none over fill msg comes stale.

@@ -1,5 +1,5 @@
 use Rattle.channels.proofs.Starting.{StartsSoFar}
-use Rattle.channels.proofs.driver.channels_of.Given as goal
+use Rattle.channels.proofs.first_channels.channels_of.Given as goal
 
 -- the channels so far are at the stages of their rows
 abbrev pub invariant-loop-channel : goal.invariant-loop-channel
