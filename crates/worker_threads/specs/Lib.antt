@@ -1,0 +1,2 @@
+pub mod LockedStores
+pub mod Senders
