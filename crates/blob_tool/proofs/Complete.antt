@@ -8,7 +8,7 @@ use Rattle.volume_model.specs.declared.command.Command.{Command}
 use Rattle.md_chain.specs.Reading.{OnlyRead}
 use Rattle.running_store.specs.declared.loaded.Loaded.{Loaded}
 use Rattle.running_store.specs.StoreView.{StoreView}
-use Rattle.script_lang.specs.declared.schedule.Actor.{Actor}
+use Rattle.blob_tool.specs.declared.driving.Drive.{Drive}
 use Rattle.store_core.specs.Opening.{IsOpened}
 use Rattle.unclean_load.specs.declared.fault.LoadFault.TheVariants as fault
 use Rattle.blob_tool.specs.Outcome.{NothingFails, Started}
@@ -28,20 +28,20 @@ module _ {S : Type 0} (s : source.Ghosts S) (script script_now : S) {D : Type 0}
   no_fault rose = fails.writing (subst (λ n. Rose n (d.write_faults back)) counts rose)
 
   -- a run behind the repairs
-  pub run_done : (commands : List (List Command)) (schedule : List Actor) (st : Status)
-      → Ended d commands schedule from k out out_now back first st → IsRunDone st
-  run_done commands schedule status.Good ended = tt
-  run_done commands schedule status.Memory ended = tt
-  run_done commands schedule status.OutWrite ended = absurd (fails.sink ended.2)
-  run_done commands schedule (status.Device at) ended = absurd (elim ended.1 [
+  pub run_done : (commands : List (List Command)) (drive : Drive) (st : Status)
+      → Ended d commands drive from k out out_now back first st → IsRunDone st
+  run_done commands drive status.Good ended = tt
+  run_done commands drive status.Memory ended = tt
+  run_done commands drive status.OutWrite ended = absurd (fails.sink ended.2)
+  run_done commands drive (status.Device at) ended = absurd (elim ended.1 [
     | inl stopped ↦ no_fault (subst (λ (x : D). Rose (d.write_faults first.disk) (d.write_faults x)) (sym stopped.1)
         (ended.0.run.counted at stopped.0))
     | inr closed ↦ no_fault (subst (λ n. Rose n (d.write_faults back)) (ended.0.run.uncounted closed.0) closed.2)
   ])
-  run_done commands schedule status.Usage ended = absurd ended
-  run_done commands schedule (status.Script line kind) ended = absurd ended
-  run_done commands schedule (status.Image why) ended = absurd ended
-  run_done commands schedule status.ScriptRead ended = absurd ended
+  run_done commands drive status.Usage ended = absurd ended
+  run_done commands drive (status.Script line kind) ended = absurd ended
+  run_done commands drive (status.Image why) ended = absurd ended
+  run_done commands drive status.ScriptRead ended = absurd ended
 
   -- the repairs
   pub repairs_done : (commands : List (List Command))
@@ -63,20 +63,20 @@ pub done_from : {S : Type 0} (s : source.Ghosts S) (script script_now : S) {D : 
     {K : Type 0} (k : sink.Ghosts K) (out out_now : K) (before back : D) (from : RunScript)
     → NothingFails s script script_now d k out out_now before back from → (loaded : Loaded D)
     → OnlyRead d before loaded.disk
-    → (commands : List (List Command)) (schedule : List Actor) (st : Status)
+    → (commands : List (List Command)) (drive : Drive) (st : Status)
     → ((first : StoreView D) → IsOpened d loaded commands first
     → Started s script script_now d k out out_now before back from commands first)
-    → EndedFrom d commands schedule from k out out_now back loaded st → IsRunDone st
-done_from s script script_now {D} d k out out_now before back from fails loaded same commands schedule st starts
+    → EndedFrom d commands drive from k out out_now back loaded st → IsRunDone st
+done_from s script script_now {D} d k out out_now before back from fails loaded same commands drive st starts
     (inl x) =
     let disk : x.0.disk ≡ loaded.disk = ap (λ (p : StoreView D). p.disk) x.1.at in
     let counts : d.write_faults x.0.disk ≡ d.write_faults before = ap d.write_faults disk ∙ same.write_faults in
     elim x.2 [
       | inl ended ↦
-          run_done s script script_now d k out out_now before back from fails x.0 counts commands schedule st ended
+          run_done s script script_now d k out out_now before back from fails x.0 counts commands drive st ended
       | inr ended ↦
           repairs_done s script script_now d k out out_now before back from fails x.0 counts commands
           (starts x.0 x.1) st ended
     ]
-done_from s script script_now d k out out_now before back from fails loaded same commands schedule st starts (inr x) =
+done_from s script script_now d k out out_now before back from fails loaded same commands drive st starts (inr x) =
     subst IsRunDone (sym x.0) tt

@@ -1,5 +1,5 @@
 -- How a run ends with its repairs.
-use Rattle.std.proofs.Common.{◌≡◌, ◌∙◌, Bool, List, [], length, Option, Some, None, IsTrue, refl, ap, subst}
+use Rattle.std.proofs.Common.{◌≡◌, ◌∙◌, Bool, false, List, [], length, Option, Some, None, IsTrue, refl, ap, subst}
 use Rattle.std.specs.FinMap as map
 use Rattle.page_disk.specs.Disk.{Rose, Telling}
 use Rattle.page_disk.specs.declared.disk.PageDisk.{Ghosts}
@@ -10,6 +10,7 @@ use Rattle.running_store.specs.StoreView.{base_of, state_of, StoreView, WithOpen
 use Rattle.store_model.specs.StateLaws.{StopLaws}
 use Rattle.streams.specs.declared.sink.Sink as sink
 use Rattle.blob_tool.specs.Found.{ReadsAs}
+use Rattle.blob_tool.specs.Statuses.{is_usage}
 use Rattle.blob_tool.specs.Repairing.{status_of_repairs, EndedInRepair, EndsRepairs, IsEndOfRepairs, Repaired}
 use Rattle.blob_tool.specs.declared.repairing.RepairsEnd.{RepairsEnd}
 use Rattle.blob_tool.specs.declared.repairing.RepairsEnd.TheVariants as end
@@ -67,3 +68,14 @@ none_left d q end.Repaired is ended = ended
 none_left d q end.Stopped is ended = absurd (cc is)
 none_left d q (end.NoRoom head has wants) is ended = absurd (cc is)
 none_left d q end.Memory is ended = absurd (cc is)
+
+abbrev IsNoUsage : Option Status → Type 0
+IsNoUsage None = Unit {0}
+IsNoUsage (Some st) = is_usage st ≡ false
+
+-- no status of repairs is one of words
+pub no_usage_of_repairs : (how : RepairsEnd) (st : Status) → status_of_repairs how ≡ Some st → is_usage st ≡ false
+no_usage_of_repairs end.Repaired st is = absurd (cc is)
+no_usage_of_repairs end.Stopped st is = subst IsNoUsage is refl
+no_usage_of_repairs (end.NoRoom head has wants) st is = subst IsNoUsage is refl
+no_usage_of_repairs end.Memory st is = subst IsNoUsage is refl

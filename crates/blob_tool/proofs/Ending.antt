@@ -43,24 +43,24 @@ use Rattle.blob_tool.specs.Closing.{Closes, IsClosed}
 use Rattle.running_store.specs.Running.{super_left}
 use Rattle.blob_tool.specs.Surviving.{IsLasting}
 use Rattle.store_model.specs.StoreState.{shown}
-use Rattle.script_lang.specs.declared.schedule.Actor.{Actor}
+use Rattle.blob_tool.specs.declared.driving.Drive.{Drive}
 use Rattle.blob_tool.specs.Outcome.{EndedRepairing, HasScript, Outcome, RanTo}
 use Rattle.blob_tool.specs.Untouched.{IsRefused, NothingWritten}
 use Rattle.blob_tool.specs.Outcome.{HasCommands, Started}
 use Rattle.blob_tool.specs.RunScripts.{printed_text}
 use Rattle.blob_tool.specs.declared.run_script.RunScript.{RunScript}
 
-module _ {D : Type 0} (d : disk.Ghosts D) (script : List (List Command)) (schedule : List Actor) (from : RunScript)
+module _ {D : Type 0} (d : disk.Ghosts D) (script : List (List Command)) (drive : Drive) (from : RunScript)
     {K : Type 0} (k : sink.Ghosts K) (out out_now : K) (back : D) (first : StoreView D) where
   -- how a run ended, by where it stopped or was closed and how much was printed
-  pub ends : (p : Played d script schedule from k out out_now back first) (quick : Bool) (stopped ended : Option ℕ)
+  pub ends : (p : Played d script drive from k out out_now back first) (quick : Bool) (stopped ended : Option ℕ)
       (printed : Result (Unit {0}) PrintFault) → p.last.stopped ≡ stopped
       → Closes d (super_left p.last.clean p.last.super) p.masks p.last.disk back quick (length p.last.log) stopped ended
       → (IsClosed d (super_left p.last.clean p.last.super) p.masks p.last.disk back quick → p.last.stopped ≡ None
       → HasSoundImage d first.disk → IsLasting d first.super (shown (state_of d first)) p.last back)
       → (IsTrue k.tells → OnOk printed (k.written out_now ≡ k.written out ++ printed_text from p.last.log))
       → (printed ≡ Err printing.Sink → Rose (k.faults out) (k.faults out_now))
-      → Ended d script schedule from k out out_now back first (of_run ended printed)
+      → Ended d script drive from k out out_now back first (of_run ended printed)
   ends p quick stopped ended (Err printing.Memory) is closes lasts whole rose = p
   ends p quick None None (Err printing.Sink) is closes lasts whole rose = (p, (is, lasts closes is), rose refl)
   ends p quick None None (Ok done) is closes lasts whole rose = (p, (is, lasts closes is), whole)
@@ -74,10 +74,10 @@ module _ {D : Type 0} (d : disk.Ghosts D) (script : List (List Command)) (schedu
       (p, inl (is ∙ sym closes.0, closes.1), inl whole)
 
 module _ {S : Type 0} (s : source.Ghosts S) (script script_now : S) {D : Type 0} (d : disk.Ghosts D) {K : Type 0}
-    (k : sink.Ghosts K) (out out_now : K) (before back : D) (from : RunScript) (schedule : List Actor) where
+    (k : sink.Ghosts K) (out out_now : K) (before back : D) (from : RunScript) (drive : Drive) where
   -- what a run came to is the outcome of the call
-  ran_to : (st : Status) → RanTo s script script_now d k out out_now before back from schedule st
-      → Outcome s script script_now d k out out_now before back from schedule st
+  ran_to : (st : Status) → RanTo s script script_now d k out out_now before back from drive st
+      → Outcome s script script_now d k out out_now before back from drive st
   ran_to status.Good ran = ran
   ran_to status.OutWrite ran = ran
   ran_to (status.Device at) ran = inl ran
@@ -89,7 +89,7 @@ module _ {S : Type 0} (s : source.Ghosts S) (script script_now : S) {D : Type 0}
 
   -- and so is what repairs came to
   in_repair : (st : Status) → EndedRepairing s script script_now d k out out_now before back from st
-      → Outcome s script script_now d k out out_now before back from schedule st
+      → Outcome s script script_now d k out out_now before back from drive st
   in_repair (status.Device at) x = inr (inr x)
   in_repair status.Memory x = inr (inr x)
   in_repair (status.Image (loading.NoRoom head has wants)) x = x
@@ -105,8 +105,8 @@ module _ {S : Type 0} (s : source.Ghosts S) (script script_now : S) {D : Type 0}
       → HasCommands s script script_now from commands
       → ((first : StoreView D) → IsOpened d loaded commands first → IsLoaded d commands before loaded first)
       → OnlyRead d before loaded.disk
-      → EndedFrom d commands schedule from k out out_now back loaded st → Outcome s script script_now d k out out_now
-      before back from schedule st
+      → EndedFrom d commands drive from k out out_now back loaded st → Outcome s script script_now d k out out_now
+      before back from drive st
   of_a_run commands loaded st reads opens same (inl x) =
       let started : Started s script script_now d k out out_now before back from commands x.0 =
       record { script_is = reads; loaded = loaded; as_found = opens x.0 x.1 } in
@@ -115,7 +115,7 @@ module _ {S : Type 0} (s : source.Ghosts S) (script script_now : S) {D : Type 0}
         | inr ended ↦ in_repair st (record { commands = commands; first = x.0; started = started; ended = ended })
       ]
   of_a_run commands loaded st reads opens same (inr x) =
-      subst (Outcome s script script_now d k out out_now before back from schedule) (sym x.0)
+      subst (Outcome s script script_now d k out out_now before back from drive) (sym x.0)
       (inr (inl (record { quiet = x.1; device = subst (OnlyRead d before) (sym x.2) same })))
 
   -- a store that wasn't loaded
@@ -123,7 +123,7 @@ module _ {S : Type 0} (s : source.Ghosts S) (script script_now : S) {D : Type 0}
       → HasScript s script script_now d k out out_now before back from
       → IsOnlyFault (d.read_faults before) (d.read_faults back) fault
       → (IsImageFault fault → d.read_faults back ≡ d.read_faults before → IsRefused d before back fault)
-      → Outcome s script script_now d k out out_now before back from schedule (of_loading fault)
+      → Outcome s script script_now d k out out_now before back from drive (of_loading fault)
   of_a_fault loading.ReadFault stays script counted refused = inr (inl (stays, script, refl, counted))
   of_a_fault loading.Memory stays script counted refused = inr (inl stays)
   of_a_fault (loading.Super why) stays script counted refused = (stays, script, refused tt counted)

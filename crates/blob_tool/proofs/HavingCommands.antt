@@ -4,7 +4,7 @@ use Rattle.page_disk.specs.declared.disk.PageDisk as disk
 use Rattle.volume_model.specs.declared.command.Command.{Command}
 use Rattle.md_chain.specs.Reading.{OnlyRead}
 use Rattle.script_lang.specs.Script.{reads}
-use Rattle.script_lang.specs.declared.schedule.Actor.{Actor}
+use Rattle.blob_tool.specs.declared.driving.Drive.{Drive}
 use Rattle.streams.specs.declared.source.Source as source
 use Rattle.streams.specs.declared.sink.Sink as sink
 use Rattle.blob_tool.specs.Outcome.{CanBeHad, HasCommands, HasNoCommands, Outcome}
@@ -42,30 +42,30 @@ only_memory s script script_now (Generated drawn) (status.Device at) can why = a
 -- where it can't, nothing is done
 pub without_commands : {S : Type 0} (s : source.Ghosts S) (script script_now : S) {D : Type 0} (d : disk.Ghosts D)
     {K : Type 0} (k : sink.Ghosts K) (out : K) (before : D) → OnlyRead d before before → (from : RunScript)
-    (schedule : List Actor) (st : Status) → HasNoCommands s script script_now from st
-    → Outcome s script script_now d k out out before before from schedule st
-without_commands s script script_now d k out before same Given schedule (status.Script line kind) why =
+    (drive : Drive) (st : Status) → HasNoCommands s script script_now from st
+    → Outcome s script script_now d k out out before before from drive st
+without_commands s script script_now d k out before same Given drive (status.Script line kind) why =
     (refl, (record { quiet = refl; device = refl }, why))
-without_commands s script script_now d k out before same Given schedule status.ScriptRead why =
+without_commands s script script_now d k out before same Given drive status.ScriptRead why =
     (refl, (record { quiet = refl; device = refl }, why))
-without_commands s script script_now d k out before same Given schedule status.Memory why =
+without_commands s script script_now d k out before same Given drive status.Memory why =
     inr (inl (record { quiet = refl; device = same }))
-without_commands s script script_now d k out before same Given schedule status.Good why = absurd why
-without_commands s script script_now d k out before same Given schedule status.Usage why = absurd why
-without_commands s script script_now d k out before same Given schedule (status.Image fault) why = absurd why
-without_commands s script script_now d k out before same Given schedule status.OutWrite why = absurd why
-without_commands s script script_now d k out before same Given schedule (status.Device at) why = absurd why
-without_commands s script script_now d k out before same (Generated drawn) schedule status.Memory why =
+without_commands s script script_now d k out before same Given drive status.Good why = absurd why
+without_commands s script script_now d k out before same Given drive status.Usage why = absurd why
+without_commands s script script_now d k out before same Given drive (status.Image fault) why = absurd why
+without_commands s script script_now d k out before same Given drive status.OutWrite why = absurd why
+without_commands s script script_now d k out before same Given drive (status.Device at) why = absurd why
+without_commands s script script_now d k out before same (Generated drawn) drive status.Memory why =
     inr (inl (record { quiet = refl; device = same }))
-without_commands s script script_now d k out before same (Generated drawn) schedule (status.Script line kind) why =
+without_commands s script script_now d k out before same (Generated drawn) drive (status.Script line kind) why =
     absurd why
-without_commands s script script_now d k out before same (Generated drawn) schedule status.ScriptRead why = absurd why
-without_commands s script script_now d k out before same (Generated drawn) schedule status.Good why = absurd why
-without_commands s script script_now d k out before same (Generated drawn) schedule status.Usage why = absurd why
-without_commands s script script_now d k out before same (Generated drawn) schedule (status.Image fault) why =
+without_commands s script script_now d k out before same (Generated drawn) drive status.ScriptRead why = absurd why
+without_commands s script script_now d k out before same (Generated drawn) drive status.Good why = absurd why
+without_commands s script script_now d k out before same (Generated drawn) drive status.Usage why = absurd why
+without_commands s script script_now d k out before same (Generated drawn) drive (status.Image fault) why =
     absurd why
-without_commands s script script_now d k out before same (Generated drawn) schedule status.OutWrite why = absurd why
-without_commands s script script_now d k out before same (Generated drawn) schedule (status.Device at) why = absurd why
+without_commands s script script_now d k out before same (Generated drawn) drive status.OutWrite why = absurd why
+without_commands s script script_now d k out before same (Generated drawn) drive (status.Device at) why = absurd why
 
 -- and none of the statuses of words comes of it
 pub no_usage : {S : Type 0} (s : source.Ghosts S) (script script_now : S) (from : RunScript) (st : Status)
@@ -110,16 +110,16 @@ unread_without s script script_now (Generated drawn) (status.Device at) why is =
 -- a generated script has no fault
 pub no_script_fault : {S : Type 0} (s : source.Ghosts S) (script script_now : S) {D : Type 0} (d : disk.Ghosts D)
     {K : Type 0} (k : sink.Ghosts K) (out out_now : K) (before back : D) (drawn : GeneratedScript)
-    (schedule : List Actor) (st : Status)
-    → Outcome s script script_now d k out out_now before back (Generated drawn) schedule st → is_usage st ≡ false
+    (drive : Drive) (st : Status)
+    → Outcome s script script_now d k out out_now before back (Generated drawn) drive st → is_usage st ≡ false
     → comes_without_script st ≡ true
-no_script_fault s script script_now d k out out_now before back drawn schedule status.Good x other = refl
-no_script_fault s script script_now d k out out_now before back drawn schedule status.OutWrite x other = refl
-no_script_fault s script script_now d k out out_now before back drawn schedule (status.Image fault) x other = refl
-no_script_fault s script script_now d k out out_now before back drawn schedule (status.Device at) x other = refl
-no_script_fault s script script_now d k out out_now before back drawn schedule status.Memory x other = refl
-no_script_fault s script script_now d k out out_now before back drawn schedule status.Usage x other = absurd (cc other)
-no_script_fault s script script_now d k out out_now before back drawn schedule (status.Script line kind) x other =
+no_script_fault s script script_now d k out out_now before back drawn drive status.Good x other = refl
+no_script_fault s script script_now d k out out_now before back drawn drive status.OutWrite x other = refl
+no_script_fault s script script_now d k out out_now before back drawn drive (status.Image fault) x other = refl
+no_script_fault s script script_now d k out out_now before back drawn drive (status.Device at) x other = refl
+no_script_fault s script script_now d k out out_now before back drawn drive status.Memory x other = refl
+no_script_fault s script script_now d k out out_now before back drawn drive status.Usage x other = absurd (cc other)
+no_script_fault s script script_now d k out out_now before back drawn drive (status.Script line kind) x other =
     absurd (cc x.0)
-no_script_fault s script script_now d k out out_now before back drawn schedule status.ScriptRead x other =
+no_script_fault s script script_now d k out out_now before back drawn drive status.ScriptRead x other =
     absurd (cc x.0)

@@ -1,12 +1,12 @@
 -- What the words ask for. Whatever it is, they ask for nothing else.
 use Rattle.std.specs.Prelude.{◌≡◌, ◌<◌, List, Option, Some, None, true, false, IfSome, String}
 use Rattle.std.specs.declared.alloc.Global.{Global}
-use Rattle.script_lang.specs.declared.schedule.Actor.{Actor}
 use Rattle.blob_tool.specs.RunScripts.{CanBeRun, IsWithinLimits}
 use Rattle.blob_tool.specs.RunWords.{AsksToRun, AskForNoRun}
 use Rattle.blob_tool.specs.FormatWords.{format_in}
 use Rattle.blob_tool.specs.GenerateWords.{generate_in}
 use Rattle.blob_tool.specs.ListWords.{asks_to_list}
+use Rattle.blob_tool.specs.declared.driving.Drive.{Drive}
 use Rattle.blob_tool.specs.declared.format_words.Format.{Format}
 use Rattle.blob_tool.specs.declared.generate_words.GeneratedScript.{GeneratedScript}
 use Rattle.blob_tool.specs.declared.run_script.RunScript.{RunScript}
@@ -21,11 +21,10 @@ pub record AskForNothing (words : List (String Global)) : Type 0 where
   pub no_generate : generate_in words ≡ None
 
 module _ (words : List (String Global)) where
-  -- a run of this script by this schedule, and of no other
-  pub record AskToRun (script : RunScript) (schedule : List Actor) : Type 0 where
-    pub asked : AsksToRun words script schedule
-    pub one : (other : RunScript) (steps : List Actor) → AsksToRun words other steps
-        → (other ≡ script) × (steps ≡ schedule)
+  -- a run of this script with this drive, and of no other
+  pub record AskToRun (script : RunScript) (drive : Drive) : Type 0 where
+    pub asked : AsksToRun words script drive
+    pub one : (other : RunScript) (by : Drive) → AsksToRun words other by → (other ≡ script) × (by ≡ drive)
     pub within : CanBeRun script
     pub no_format : format_in words ≡ None
     pub no_list : asks_to_list words ≡ false
@@ -57,7 +56,7 @@ module _ (words : List (String Global)) where
   -- what they ask for, if it is anything
   abbrev pub AskFor : Option Task → Type 0
   AskFor None = AskForNothing words
-  AskFor (Some (task.Run script schedule)) = AskToRun script schedule
+  AskFor (Some (task.Run script drive)) = AskToRun script drive
   AskFor (Some (task.Format new)) = AskToFormat new
   AskFor (Some task.List) = AskToList
   AskFor (Some (task.Generate script)) = AskToGenerate script

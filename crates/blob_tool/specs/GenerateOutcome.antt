@@ -1,5 +1,5 @@
 -- What `generate` came to, by its status.
-use Rattle.std.specs.Prelude.{◌≡◌, List, ℕ, ◌++◌, Bool, true, false, IsTrue}
+use Rattle.std.specs.Prelude.{◌≡◌, List, ℕ, ◌++◌, IsTrue}
 use Rattle.page_disk.specs.Disk.{Rose}
 use Rattle.script_lang.specs.Generated.{generated}
 use Rattle.streams.specs.Printing.{IsPartOf}

@@ -1,29 +1,29 @@
 -- What a call of the program did, by its status.
-use Rattle.std.specs.Prelude.{◌≡◌, ◌⊎◌, ℕ, ◌<◌, ◌≤◌, ◌^◌, List, [], length, Some, None, IsTrue}
+use Rattle.std.specs.Prelude.{◌≡◌, ◌⊎◌, ℕ, ◌<◌, ◌≤◌, ◌^◌, Bool, List, [], length, Some, None, IsTrue}
 use Rattle.page_disk.specs.Disk.{Rose}
 use Rattle.page_disk.specs.declared.disk.PageDisk as disk
 use Rattle.volume_model.specs.declared.command.Command.{Command}
 use Rattle.job_begins.specs.Repairs.{LacksForRepair}
-use Rattle.md_chain.specs.Reading.{OnlyRead}
 use Rattle.script_lang.specs.Script.{reads, IsFirstBad}
 use Rattle.script_lang.specs.declared.fault.LineKind.{LineKind}
 use Rattle.script_lang.specs.declared.fault.LineKind.TheVariants.{Limit}
-use Rattle.script_lang.specs.declared.schedule.Actor.{Actor}
 use Rattle.running_store.specs.declared.loaded.Loaded.{Loaded}
-use Rattle.running_store.specs.StoreView.{state_of, StoreView}
+use Rattle.running_store.specs.StoreView.{state_of, StoreView, WithOpening}
 use Rattle.repair_runs.specs.RepairRuns.{RepairRun}
 use Rattle.unclean_load.specs.Accepted.{IsAccepted}
 use Rattle.unclean_load.specs.declared.fault.LoadFault.{LoadFault}
 use Rattle.unclean_load.specs.declared.fault.LoadFault.TheVariants as fault
 use Rattle.streams.specs.declared.source.Source as source
 use Rattle.streams.specs.declared.sink.Sink as sink
+use Rattle.blob_tool.specs.declared.driving.Drive.{Drive}
 use Rattle.blob_tool.specs.declared.run_script.RunScript.{RunScript}
 use Rattle.blob_tool.specs.declared.run_script.RunScript.TheVariants.{Generated, Given}
 use Rattle.blob_tool.specs.declared.status.Status.{Status}
 use Rattle.blob_tool.specs.declared.status.Status.TheVariants as status
 use Rattle.blob_tool.specs.Repairing.{EndedInRepair}
 use Rattle.blob_tool.specs.RunScripts.{generated_commands}
-use Rattle.blob_tool.specs.Runs.{Ended, IsLoaded}
+use Rattle.blob_tool.specs.Found.{IsFound}
+use Rattle.blob_tool.specs.Runs.{Ended, IsLoaded, IsMended}
 use Rattle.blob_tool.specs.Untouched.{IsRefused, NothingDone, NothingWritten}
 
 module _ {S : Type 0} (s : source.Ghosts S) (script script_now : S) where
@@ -83,6 +83,15 @@ module _ {S : Type 0} (s : source.Ghosts S) (script script_now : S) where
   CanBeHad Given = SourceHasScript
   CanBeHad (Generated drawn) = Unit {0}
 
+  -- the script was had, and the store is loaded, opened with its commands, and mended
+  pub record IsReady {D : Type 0} (d : disk.Ghosts D) (before : D) (from : RunScript) (quick : Bool)
+      (plant : WithOpening D) : Type 0 where
+    pub commands : List (List Command)
+    pub script_is : HasCommands from commands
+    pub loaded : Loaded D
+    pub found : IsFound d before loaded
+    pub mended : IsMended d commands loaded quick plant
+
   module _ {D : Type 0} (d : disk.Ghosts D) {K : Type 0} (k : sink.Ghosts K) (out out_now : K) (before back : D) where
     -- the script is none, or can't be read: then the device isn't touched
     abbrev pub IsBadScript : ℕ → LineKind → Type 0
@@ -101,12 +110,12 @@ module _ {S : Type 0} (s : source.Ghosts S) (script script_now : S) where
       pub loaded : Loaded D
       pub as_found : IsLoaded d commands before loaded first
 
-    -- a run by a schedule, and what it came to
-    pub record RanTo (schedule : List Actor) (status : Status) : Type 0 where
+    -- a run by its drive, and what it came to
+    pub record RanTo (drive : Drive) (status : Status) : Type 0 where
       pub commands : List (List Command)
       pub first : StoreView D
       pub started : Started commands first
-      pub ended : Ended d commands schedule from k out out_now back first status
+      pub ended : Ended d commands drive from k out out_now back first status
 
     -- a run that ended with its repairs, and what they came to
     pub record EndedRepairing (status : Status) : Type 0 where
@@ -137,18 +146,18 @@ module _ {S : Type 0} (s : source.Ghosts S) (script script_now : S) where
         NothingWritten d before out out_now back × HasScript × (at ≡ 0)
         × Rose (d.read_faults before) (d.read_faults back)
 
-    -- what each status says of a run that was asked for by a schedule
-    abbrev pub Outcome : List Actor → Status → Type 0
-    Outcome schedule status.Good = RanTo schedule status.Good
-    Outcome schedule status.Usage = NothingDone out out_now before back × (script_now ≡ script)
-    Outcome schedule (status.Script line kind) = (from ≡ Given) × IsBadScript d k out out_now before back line kind
-    Outcome schedule (status.Image fault) = IsBadImage fault
-    Outcome schedule status.ScriptRead = (from ≡ Given) × IsUnread d k out out_now before back
-    Outcome schedule status.OutWrite = RanTo schedule status.OutWrite
-    Outcome schedule (status.Device at) =
-        RanTo schedule (status.Device at) ⊎ (IsUnloaded at ⊎ EndedRepairing (status.Device at))
-    Outcome schedule status.Memory =
-        RanTo schedule status.Memory ⊎ (NothingWritten d before out out_now back ⊎ EndedRepairing status.Memory)
+    -- what each status says of a run that was asked for with this drive
+    abbrev pub Outcome : Drive → Status → Type 0
+    Outcome drive status.Good = RanTo drive status.Good
+    Outcome drive status.Usage = NothingDone out out_now before back × (script_now ≡ script)
+    Outcome drive (status.Script line kind) = (from ≡ Given) × IsBadScript d k out out_now before back line kind
+    Outcome drive (status.Image fault) = IsBadImage fault
+    Outcome drive status.ScriptRead = (from ≡ Given) × IsUnread d k out out_now before back
+    Outcome drive status.OutWrite = RanTo drive status.OutWrite
+    Outcome drive (status.Device at) =
+        RanTo drive (status.Device at) ⊎ (IsUnloaded at ⊎ EndedRepairing (status.Device at))
+    Outcome drive status.Memory =
+        RanTo drive status.Memory ⊎ (NothingWritten d before out out_now back ⊎ EndedRepairing status.Memory)
 
     -- the script can be had, the image is accepted, each repair has the pages that it needs, and no count of faults
     -- rose in the call

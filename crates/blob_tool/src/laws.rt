@@ -15,9 +15,9 @@ ghost use Rattle.volume_model.specs.declared.command.Command.{Command};
 ghost use Rattle.volume_model.specs.declared.reply.Entry.{Entry};
 ghost use Rattle.blob_tool.specs.Outcome.{NothingFails, RanTo};
 ghost use Rattle.blob_tool.specs.Runs.{TellsNoFault};
+ghost use Rattle.blob_tool.specs.declared.driving.Drive.{Drive as ADrive};
 ghost use Rattle.blob_tool.specs.declared.run_script.RunScript.{RunScript as AnOrigin};
 ghost use Rattle.blob_tool.specs.declared.status.Status.TheVariants.{Good};
-ghost use Rattle.script_lang.specs.declared.schedule.Actor.{Actor as AnActor};
 
 use page_disk::PageDisk;
 use store_model::recoveries;
@@ -40,8 +40,8 @@ pub fn left_images_are_loaded<D: PageDisk>()
 /// A law, with no code: where no count of faults rises in the call, no entry of the log is `read fault`, `fault` or
 /// `stopped`.
 pub fn undisturbed_runs_tell_no_fault<S: Source, K: Sink, D: PageDisk>()
-    ensures { (script script_now : S) (out out_now : K) (before back : D) (from : AnOrigin) (schedule : List AnActor)
-        → (ran : RanTo S.Source script script_now D.PageDisk K.Sink out out_now before back from schedule Good)
+    ensures { (script script_now : S) (out out_now : K) (before back : D) (from : AnOrigin) (drive : ADrive)
+        → (ran : RanTo S.Source script script_now D.PageDisk K.Sink out out_now before back from drive Good)
         → NothingFails S.Source script script_now D.PageDisk K.Sink out out_now before back from
         → TellsNoFault ran.ended.0.last.log }
 {}

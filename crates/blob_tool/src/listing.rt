@@ -5,7 +5,7 @@ ghost use Rattle.blob_report.specs.StoreText.{store_text};
 ghost use Rattle.super_block.specs.Faults.{IsFaultless};
 ghost use Rattle.blob_tool.specs.ListOutcome.{ListEnded};
 
-use crate::playing::disk_of;
+use crate::opening::disk_of;
 use crate::status::Status;
 use blob_report::render_store;
 use out_of_memory::Memory as NoMemory;

@@ -3,10 +3,11 @@
 ghost use Rattle.std.specs.Prelude.{IfOk};
 ghost use Rattle.blob_tool.specs.Commands.{AskFor};
 
+use crate::driving::Drive;
 use crate::format_words::{Format, of_options};
 use crate::generate_words::{GeneratedScript, generated_script};
 use crate::run_script::RunScript;
-use crate::run_words::schedule_of;
+use crate::run_words::drive_of;
 use command_words::{CommandWords, read_words};
 use out_of_memory::Memory;
 use script_lang::Schedule;
@@ -15,8 +16,8 @@ use std::alloc::Global;
 /// What a command is to do.
 #[derive(Debug, Drop)]
 pub(crate) enum Task {
-    /// This script is run, by this schedule and then in rounds.
-    Run(RunScript, Schedule),
+    /// This script is run, with this drive.
+    Run(RunScript, Drive),
     /// A store like this is written.
     Format(Format),
     /// The store and its volumes are printed.
@@ -33,8 +34,12 @@ pub(crate) fn task_in(alloc: Global, words: &[String]) -> Result<Option<Task>, M
         return Ok(None);
     };
     match command {
-        CommandWords::Run { schedule, .. } => match schedule_of(alloc, schedule)? {
-            Some(schedule) => Ok(Some(Task::Run(RunScript::Given, schedule))),
+        CommandWords::Run {
+            schedule,
+            threads,
+            ..
+        } => match drive_of(alloc, schedule, threads)? {
+            Some(drive) => Ok(Some(Task::Run(RunScript::Given, drive))),
             None => Ok(None),
         },
         CommandWords::Format { options, .. } => Ok(of_options(&options).map(Task::Format)),
@@ -44,7 +49,8 @@ pub(crate) fn task_in(alloc: Global, words: &[String]) -> Result<Option<Task>, M
         }
         CommandWords::Exercise { number, size, .. } => match generated_script(number, size) {
             Some(script) => {
-                Ok(Some(Task::Run(RunScript::Generated(script), Schedule::new(alloc))))
+                let drive = Drive::Stepwise(Schedule::new(alloc));
+                Ok(Some(Task::Run(RunScript::Generated(script), drive)))
             }
             None => Ok(None),
         },

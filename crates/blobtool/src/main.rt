@@ -4,14 +4,16 @@
 //! error; where the words are no command, or ask for help, with `clap`'s text.
 #![tactic(auto)]
 
-use blob_tool::{Status, blobtool};
+use blob_tool::{OpenGate, Status, blobtool_gated};
 use command_words::{CommandWords, read_words, refusal};
 use host_io::{
-    Access, CallFailure, Ending, ErrorLine, FileDisk, ImageSizes, KeptInput, OpenFault, StdSink,
-    StdSource, hold_streams, image_beside, is_asked_for, take_new, word_fault,
+    Access, Ending, ErrorLine, FileDisk, ImageSizes, KeptInput, OpenFault, StdSink, StdSource,
+    close, hold_streams, image_beside, is_asked_for, open, take_new, word_fault,
 };
 use page_disk::{MemDisk, PageDisk};
 use std::process::ExitCode;
+use std::sync::Wait;
+use std::thread::Threads;
 use std::{env, io};
 
 /// The words after the program's name.
@@ -21,11 +23,6 @@ fn words(rt: &HostRuntime) -> io::Result<Vec<String>> {
         words.push(word)?;
     }
     Ok(words)
-}
-
-/// The disk over the file of an image, which is locked for as long as the disk is there.
-fn open(rt: &HostRuntime, image: &str, access: Access) -> Result<FileDisk, OpenFault> {
-    Ok(FileDisk::new(host_io::open(rt, image, access)?)?)
 }
 
 /// The ending at words that are no command, or of which one isn't of its form.
@@ -43,15 +40,24 @@ fn usage(rt: &HostRuntime, words: &[String]) -> Ending {
 }
 
 /// Does what the words say over the standard streams and this device, which it hands back.
-fn perform<'a, D: PageDisk + Drop + Send>(
+fn perform<'a, D: PageDisk + Drop + Send, R: Threads + Wait + Sync>(
     rt: &HostRuntime,
+    threads: &R,
     words: &'a [String],
     image: Option<&'a str>,
     disk: D,
 ) -> (ErrorLine<'a>, D) {
     let mut script = StdSource::new(KeptInput::new(rt.alloc(), rt.stdin()));
     let mut out = StdSink::new(rt.stdout());
-    let (status, disk) = blobtool(rt.alloc(), words, &mut script, &mut out, disk);
+    let (status, disk) = blobtool_gated(
+        threads,
+        rt.alloc(),
+        words,
+        &mut script,
+        &mut out,
+        disk,
+        &OpenGate,
+    );
     let failure = match &status {
         Status::ScriptRead => script.failure(),
         Status::OutWrite => out.failure(),
@@ -71,36 +77,51 @@ fn perform<'a, D: PageDisk + Drop + Send>(
     (line, disk)
 }
 
+/// Closes the disk of an image, and takes into the line which call on it failed. Where all was good but a write that is
+/// made only now, the device failed.
+fn end_disk(line: &mut ErrorLine<'_>, disk: FileDisk) {
+    let (written, failure) = close(disk);
+    if written.is_err() && matches!(&line.ending, Ending::Ran(Status::Good)) {
+        line.ending = Ending::Ran(Status::Device { at: 0 });
+    }
+    if matches!(&line.ending, Ending::Ran(Status::Device { .. })) {
+        line.failure = failure;
+    }
+}
+
 /// Does what the words say over this image.
-fn over_image<'a>(
+fn over_image<'a, R: Threads + Wait + Sync>(
     rt: &HostRuntime,
+    threads: &R,
     words: &'a [String],
     image: &'a str,
     access: Access,
 ) -> ErrorLine<'a> {
     match open(rt, image, access) {
         Ok(disk) => {
-            let (mut line, mut disk) = perform(rt, words, Some(image), disk);
+            let (mut line, mut disk) = perform(rt, threads, words, Some(image), disk);
             if matches!(&line.ending, Ending::Ran(Status::Image { .. })) {
                 line.sizes = ImageSizes::on(&mut disk);
             }
-            if matches!(&line.ending, Ending::Ran(Status::Device { .. })) {
-                line.failure = disk.file().failure().map(CallFailure::from);
-            }
+            end_disk(&mut line, disk);
             line
         }
-        Err(fault) => {
+        Err(ending) => {
             let command = words.first().map(|word| word.as_str());
-            ErrorLine::new(command, Some(image), Ending::NotOpened(fault))
+            ErrorLine::new(command, Some(image), ending)
         }
     }
 }
 
 /// Does what the words say over a device without pages, since they name no image.
-fn without_image<'a>(rt: &HostRuntime, words: &'a [String]) -> ErrorLine<'a> {
+fn without_image<'a, R: Threads + Wait + Sync>(
+    rt: &HostRuntime,
+    threads: &R,
+    words: &'a [String],
+) -> ErrorLine<'a> {
     match MemDisk::new(rt.alloc(), 0, 0) {
         Ok(disk) => {
-            let (line, _disk) = perform(rt, words, None, disk);
+            let (line, _disk) = perform(rt, threads, words, None, disk);
             line
         }
         Err(_) => ErrorLine::new(None, None, Ending::Ran(Status::Memory)),
@@ -109,7 +130,11 @@ fn without_image<'a>(rt: &HostRuntime, words: &'a [String]) -> ErrorLine<'a> {
 
 /// Answers words that are no command. What they ask for is answered at once; else an image that can't be opened is told
 /// before them.
-fn refuse<'a>(rt: &HostRuntime, words: &'a [String]) -> ErrorLine<'a> {
+fn refuse<'a, R: Threads + Wait + Sync>(
+    rt: &HostRuntime,
+    threads: &R,
+    words: &'a [String],
+) -> ErrorLine<'a> {
     match refusal(rt.alloc(), words) {
         Ok(Some(text)) if is_asked_for(&text) => {
             return ErrorLine::new(None, None, Ending::Refused(text));
@@ -118,16 +143,21 @@ fn refuse<'a>(rt: &HostRuntime, words: &'a [String]) -> ErrorLine<'a> {
         Err(_) => return ErrorLine::new(None, None, Ending::Ran(Status::Memory)),
     }
     match image_beside(words) {
-        Some(image) => over_image(rt, words, image, Access::Read),
-        None => without_image(rt, words),
+        Some(image) => over_image(rt, threads, words, image, Access::Read),
+        None => without_image(rt, threads, words),
     }
 }
 
 /// Opens the image that the words name, for a new store alone where that is asked for, and does what they say.
-fn start<'a>(rt: &HostRuntime, words: &'a [String], is_new: bool) -> ErrorLine<'a> {
+fn start<'a, R: Threads + Wait + Sync>(
+    rt: &HostRuntime,
+    threads: &R,
+    words: &'a [String],
+    is_new: bool,
+) -> ErrorLine<'a> {
     match read_words(rt.alloc(), words) {
         Ok(Some(CommandWords::Format { image, .. })) if is_new => {
-            over_image(rt, words, image, Access::WriteNew)
+            over_image(rt, threads, words, image, Access::WriteNew)
         }
         Ok(
             Some(
@@ -135,10 +165,16 @@ fn start<'a>(rt: &HostRuntime, words: &'a [String], is_new: bool) -> ErrorLine<'
                 | CommandWords::Format { image, .. }
                 | CommandWords::Exercise { image, .. },
             ),
-        ) => over_image(rt, words, image, Access::Write),
-        Ok(Some(CommandWords::List { image })) => over_image(rt, words, image, Access::Read),
-        Ok(Some(CommandWords::Generate { .. })) => without_image(rt, words),
-        Ok(None) => refuse(rt, words),
+        ) => over_image(rt, threads, words, image, Access::Write),
+        Ok(Some(CommandWords::List { image })) => over_image(
+            rt,
+            threads,
+            words,
+            image,
+            Access::Read,
+        ),
+        Ok(Some(CommandWords::Generate { .. })) => without_image(rt, threads, words),
+        Ok(None) => refuse(rt, threads, words),
         Err(_) => ErrorLine::new(None, None, Ending::Ran(Status::Memory)),
     }
 }
@@ -154,11 +190,11 @@ fn tell(rt: &HostRuntime, line: &ErrorLine<'_>) -> u8 {
 }
 
 /// Does what the program is called for, and gives the exit status.
-fn serve(rt: &HostRuntime) -> u8 {
+fn serve<R: Threads + Wait + Sync>(rt: &HostRuntime, threads: &R) -> u8 {
     match words(rt) {
         Ok(mut words) => {
             let is_new = take_new(&mut words);
-            tell(rt, &start(rt, words.as_slice(), is_new))
+            tell(rt, &start(rt, threads, words.as_slice(), is_new))
         }
         Err(error) => tell(rt, &ErrorLine::new(None, None, Ending::no_words(error))),
     }
@@ -167,7 +203,7 @@ fn serve(rt: &HostRuntime) -> u8 {
 fn main(rt: HostRuntime) -> ExitCode {
     let code = match hold_streams(&rt) {
         Ok(held) => {
-            let code = serve(&rt);
+            let code = serve(&rt, &rt);
             drop(held);
             code
         }

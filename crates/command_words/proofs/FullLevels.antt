@@ -1,5 +1,5 @@
 -- Where `clap` has no kind of error for the words, whatever it finds in them has a value: of a command whose arguments
--- take one value each, or ask for help.
+-- take one value each, or are flags, or ask for help.
 use Rattle.std.proofs.Common.{◌≡◌, ◌&&◌, ℕ, Bool, true, false, if◌then◌else◌, List, [], ◌∷◌, Option, Some, None}
 use Rattle.std.proofs.Common.{is_some}
 use Rattle.std.specs.Prelude.{fold}

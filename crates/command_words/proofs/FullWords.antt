@@ -1,7 +1,7 @@
 -- A word in which `clap` finds no error leaves each row with a value, of a command whose arguments take one value each,
--- or ask for help.
-use Rattle.std.proofs.Common.{◌≡◌, ◌⊎◌, ◌&&◌, ℕ, zero, suc, Bool, true, false, not, if◌then◌else◌, List, [], ◌∷◌}
-use Rattle.std.proofs.Common.{length, drop, Option, Some, None, is_some, refl, sym, subst, inl, inr}
+-- or are flags, or ask for help.
+use Rattle.std.proofs.Common.{◌≡◌, ◌&&◌, ℕ, zero, suc, Bool, true, false, not, if◌then◌else◌, List, [], ◌∷◌}
+use Rattle.std.proofs.Common.{length, drop, Option, Some, None, is_some, refl, sym, subst}
 use Rattle.std.specs.Prelude.{encode_utf8, find, slice_get}
 use Rattle.std.specs.Option.{option_map_or}
 use Rattle.std.specs.Str.{bytes_eq, chars}
@@ -17,16 +17,18 @@ use Rattle.clap.specs.Walk.{short_or_plain, takes_values, Text, used, used_as, u
 use Rattle.clap.specs.Walk.{waits, without}
 use Rattle.clap.specs.Lexer.{short_of}
 use Rattle.clap.specs.declared.builder.action.ArgAction.{ArgAction}
-use Rattle.clap.specs.declared.builder.action.ArgAction.TheVariants.{Help, Set}
+use Rattle.clap.specs.declared.builder.action.ArgAction.TheVariants.{Help, Set, SetTrue}
 use Rattle.clap.specs.declared.error.kind.ErrorKind.TheVariants.{TooManyValues}
 use Rattle.clap.specs.declared.parser.matches.ValueSource.TheVariants.{CommandLine}
 use Rattle.command_words.proofs.FullRows.{both_none, Full, full-with_values, full-without, some_same}
 
 -- ---- one use of an argument
 
--- it takes one value, or asks for help
-abbrev pub Ready : Rule → Type 0
-Ready a = ((action_of a ≡ Set) × ((unwrap_or_range a.range).start_inclusive ≡ 1)) ⊎ (action_of a ≡ Help)
+-- it takes one value, or is a flag, for which a text stands where it is there, or asks for help
+pub data Ready (a : Rule) : Type 0 where
+  takes_one : action_of a ≡ Set → (unwrap_or_range a.range).start_inclusive ≡ 1 → Ready a
+  is_flag : action_of a ≡ SetTrue → (text : Text) → a.missing ≡ text ∷ [] → Ready a
+  asks_help : action_of a ≡ Help → Ready a
 
 abbrev pub AllReady : List Rule → Type 0
 AllReady [] = Unit {0}
@@ -43,14 +45,21 @@ ready-find test (x ∷ c) a ready is =
 module _ (again : Bool) (a : Rule) (rows : List Row) where
   full-used : (values : List Text) → Full rows → Ready a → use_fault again a values rows ≡ []
       → Full (used a values rows)
-  full-used [] full (inl set) none =
+  full-used [] full (takes_one set one) none =
       let parts = both_none (range_kinds (unwrap_or_range a.range).start_inclusive (most_values a) 0)
       (action_fault (action_of a) again a (values_or_missing a []) rows) none in
-      let at_one = subst (λ (n : ℕ). range_kinds n (most_values a) 0 ≡ []) set.1 parts.0 in cc at_one
-  full-used (v ∷ vs) full (inl set) none =
-      subst (λ (x : ArgAction). Full (used_as x a.id (reading_by a) (v ∷ vs) rows)) (sym set.0)
+      let at_one = subst (λ (n : ℕ). range_kinds n (most_values a) 0 ≡ []) one parts.0 in cc at_one
+  full-used (v ∷ vs) full (takes_one set one) none =
+      subst (λ (x : ArgAction). Full (used_as x a.id (reading_by a) (v ∷ vs) rows)) (sym set)
       (full-with_values a.id (reading_by a) CommandLine v vs (without a.id rows) (full-without a.id rows full))
-  full-used values full (inr help) none =
+  full-used [] full (is_flag set text missing) none =
+      subst (λ (x : ArgAction). Full (used_as x a.id (reading_by a) a.missing rows)) (sym set)
+      (subst (λ (values : List Text). Full (used_as SetTrue a.id (reading_by a) values rows)) (sym missing)
+      (full-with_values a.id (reading_by a) CommandLine text [] (without a.id rows) (full-without a.id rows full)))
+  full-used (v ∷ vs) full (is_flag set text missing) none =
+      subst (λ (x : ArgAction). Full (used_as x a.id (reading_by a) (v ∷ vs) rows)) (sym set)
+      (full-with_values a.id (reading_by a) CommandLine v vs (without a.id rows) (full-without a.id rows full))
+  full-used values full (asks_help help) none =
       let parts = both_none (range_kinds (unwrap_or_range a.range).start_inclusive (most_values a) (length values))
       (action_fault (action_of a) again a (values_or_missing a values) rows) none in
       let asks = subst (λ (x : ArgAction). action_fault x again a (values_or_missing a values) rows ≡ []) help

@@ -20,11 +20,11 @@ use Rattle.clap.specs.Walk.{Rule, walk_from}
 use Rattle.command_words.specs.CommandLine.{command_line, exercise_line, format_line, generate_line, list_line}
 use Rattle.command_words.specs.CommandLine.{run_line}
 use Rattle.command_words.specs.Words.{as_read, asked_by, asked_in, refusal_of, unless_refused}
-use Rattle.command_words.specs.Words.{exercise, format, generate, list, options_by, run, Asked}
+use Rattle.command_words.specs.Words.{exercise, format, generate, has_flag, list, options_by, run, Asked}
 use Rattle.command_words.specs.declared.reading.CommandWords.{CommandWords}
 use Rattle.command_words.proofs.FullLevels.{full-level}
 use Rattle.command_words.proofs.FullRows.{both_none, given-first}
-use Rattle.command_words.proofs.FullWords.{AllReady}
+use Rattle.command_words.proofs.FullWords.{AllReady, asks_help, is_flag, takes_one}
 use Rattle.command_words.proofs.Stops.{StopsAtNoHelp, stops_at_no_help}
 
 is_some-map : {X Y : Type 0} (f : X → Y) (o : Option X) → is_some (option_map f o) ≡ is_some o
@@ -105,22 +105,26 @@ module _ (words : List Text) where
   run_taken : IsTaken words (leaf run_line)
   run_taken none =
       let rows = rows_after (leaf run_line).rules [] words in
-      is_some-map (λ image. run image (first_of (codes "schedule") rows)) (first_of (codes "IMAGE") rows)
-      ∙ image_given (leaf run_line) (inl (refl, refl), (inl (refl, refl), (inr refl, tt))) (λ r. refl) none
+      is_some-map (λ image. run image (first_of (codes "schedule") rows) (has_flag (codes "threads") rows))
+      (first_of (codes "IMAGE") rows)
+      ∙ image_given (leaf run_line) (
+        takes_one refl refl,
+        (takes_one refl refl, (is_flag refl (codes "true") refl, (asks_help refl, tt))),
+      ) (λ r. refl) none
 
   format_taken : IsTaken words (leaf format_line)
   format_taken none =
       let rows = rows_after (leaf format_line).rules [] words in
       is_some-map (λ image. format image (options_by rows)) (first_of (codes "IMAGE") rows)
       ∙ image_given (leaf format_line) (
-        inl (refl, refl),
-        (inl (refl, refl), (inl (refl, refl), (inl (refl, refl), (inl (refl, refl), (inr refl, tt))))),
+        takes_one refl refl,
+        (takes_one refl refl, (takes_one refl refl, (takes_one refl refl, (takes_one refl refl, (asks_help refl, tt))))),
       ) (λ r. refl) none
 
   list_taken : IsTaken words (leaf list_line)
   list_taken none =
       is_some-map list (first_of (codes "IMAGE") (rows_after (leaf list_line).rules [] words))
-      ∙ image_given (leaf list_line) (inl (refl, refl), (inr refl, tt)) (λ r. refl) none
+      ∙ image_given (leaf list_line) (takes_one refl refl, (asks_help refl, tt)) (λ r. refl) none
 
   generate_taken : IsTaken words (leaf generate_line)
   generate_taken none =
@@ -128,7 +132,7 @@ module _ (words : List Text) where
       let number = is_given (codes "NUMBER") rows in
       let size = is_given (codes "SIZE") rows in
       let level = full-level (leaf generate_line)
-      (inl (refl, refl), (inl (refl, refl), (inr refl, tt))) [] words false [] none in
+      (takes_one refl refl, (takes_one refl refl, (asks_help refl, tt))) [] words false [] none in
       let lacks = none_lacks (not number || (not size || false)) level.1 in
       is_some-both generate (first_of (codes "NUMBER") rows) (first_of (codes "SIZE") rows)
       (given-first (codes "NUMBER") rows level.0 (given_from number (not size || false) lacks))
@@ -141,7 +145,7 @@ module _ (words : List Text) where
       let number = is_given (codes "NUMBER") rows in
       let size = is_given (codes "SIZE") rows in
       let level = full-level (leaf exercise_line)
-      (inl (refl, refl), (inl (refl, refl), (inl (refl, refl), (inr refl, tt)))) [] words false [] none in
+      (takes_one refl refl, (takes_one refl refl, (takes_one refl refl, (asks_help refl, tt)))) [] words false [] none in
       let lacks = none_lacks (not image || (not number || (not size || false))) level.1 in
       let others = more_from image (not number || (not size || false)) lacks in
       is_some-three exercise (first_of (codes "IMAGE") rows) (first_of (codes "NUMBER") rows)

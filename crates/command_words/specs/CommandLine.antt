@@ -1,5 +1,6 @@
 -- The program's command line, as `clap` reads it: a command with one level of subcommands.
 use Rattle.std.specs.Prelude.{true, false, List, [], ◌∷◌, ◌++◌, Some, codes}
+use Rattle.clap.specs.declared.builder.action.ArgAction.TheVariants.{SetTrue}
 use Rattle.clap.specs.Walk.{Rule, Text}
 use Rattle.clap.specs.Simple.{App, Shape, new_rule, new_shape, with_rule}
 
@@ -11,12 +12,17 @@ placed_rule id = record (new_rule id) { required = true }
 abbrev pub option : Text → Rule
 option name = record (new_rule name) { long = Some name; value_names = 1 }
 
+-- an option without a value, `--NAME`
+abbrev pub flag : Text → Rule
+flag name = record (new_rule name) { long = Some name; action = Some SetTrue }
+
 -- a subcommand with these arguments
 abbrev pub subcommand : Text → List Rule → Shape
 subcommand name rules = record (new_shape name) { rules = rules }
 
 abbrev pub run_line : Shape
-run_line = subcommand (codes "run") (placed_rule (codes "IMAGE") ∷ option (codes "schedule") ∷ [])
+run_line =
+    subcommand (codes "run") (placed_rule (codes "IMAGE") ∷ option (codes "schedule") ∷ flag (codes "threads") ∷ [])
 
 -- with the options on sizes
 abbrev pub sized_format_line : Shape

@@ -1,7 +1,7 @@
 -- What the words behind the program's name ask for, by `clap`'s meaning of the program's command line.
-use Rattle.std.specs.Prelude.{if◌then◌else◌, List, [], ◌∷◌, Option, None, codes, map, option_and_then}
+use Rattle.std.specs.Prelude.{Bool, false, if◌then◌else◌, List, [], ◌∷◌, Option, None, codes, map, option_and_then}
 use Rattle.std.specs.Prelude.{option_map, string_bytes, String}
-use Rattle.std.specs.Option.{option_copied}
+use Rattle.std.specs.Option.{option_copied, option_map_or}
 use Rattle.std.specs.Str.{bytes_eq}
 use Rattle.std.specs.declared.alloc.Global.{Global}
 use Rattle.clap.specs.Faults.{fault_of}
@@ -23,8 +23,8 @@ pub record FormatTexts : Type 0 where
 
 -- a command with the texts of what stands behind it; an option may be missing
 pub data Asked : Type 0 where
-  -- an image, and a schedule
-  run : Text → Option Text → Asked
+  -- an image, a schedule, and whether it is to be by threads
+  run : Text → Option Text → Bool → Asked
   -- an image, and what the new store is to be like
   format : Text → FormatTexts → Asked
   -- an image
@@ -34,8 +34,14 @@ pub data Asked : Type 0 where
   -- an image, a number and a size
   exercise : Text → Text → Text → Asked
 
+-- an option without a value is there: what `clap` finds of it is the text `true`
+abbrev pub has_flag : Text → List Row → Bool
+has_flag name rows = option_map_or (λ text. bytes_eq text (codes "true")) (first_of name rows) false
+
 abbrev pub run_asked : List Row → Option Asked
-run_asked rows = option_map (λ image. run image (first_of (codes "schedule") rows)) (first_of (codes "IMAGE") rows)
+run_asked rows =
+    option_map (λ image. run image (first_of (codes "schedule") rows) (has_flag (codes "threads") rows))
+    (first_of (codes "IMAGE") rows)
 
 abbrev pub options_by : List Row → FormatTexts
 options_by rows = record {
@@ -100,7 +106,7 @@ texts_of options = record {
 
 -- a command as it was read
 abbrev pub as_read : CommandWords → Asked
-as_read (words.Run image schedule) = run image.now (option_copied schedule)
+as_read (words.Run image schedule threads) = run image.now (option_copied schedule) threads
 as_read (words.Format image options) = format image.now (texts_of options)
 as_read (words.List image) = list image.now
 as_read (words.Generate number size) = generate number.now size.now

@@ -6,7 +6,7 @@ ghost use Rattle.clap.specs.Walk.{rule_of};
 ghost use Rattle.clap.specs.declared.builder.command.Command.TheViews.{out-Command as fields_of};
 ghost use Rattle.command_words.specs.CommandLine as said;
 
-use clap::{Arg, Command};
+use clap::{Arg, ArgAction, Command};
 use std::alloc::{AllocError, Global};
 
 /// An argument that is known by its place, and has to be there.
@@ -28,6 +28,17 @@ fn option<'a>(alloc: Global, name: &'a str, value: &'a str, help: &'a str) -> Ar
         .help(help)
 }
 
+/// An option without a value.
+fn flag<'a>(alloc: Global, name: &'a str, help: &'a str) -> Arg<'a>
+    ensures rule { rule_of result ≡ said.flag name.entry.now }
+    ensures local { result.global ≡ false }
+{
+    Arg::new(alloc, name)
+        .long(name)
+        .action(ArgAction::SetTrue)
+        .help(help)
+}
+
 /// `run IMAGE`.
 fn run_line<'a>(alloc: Global) -> Result<Command<'a>, AllocError>
     ensures shape { IfOk result (λ c. shape_of c ≡ said.run_line) }
@@ -46,6 +57,12 @@ fn run_line<'a>(alloc: Global) -> Result<Command<'a>, AllocError>
             "The first steps, by who makes them: channels 0 to 15, and m for the{n}\
              metadata thread, as in 0*2,1+m*200; then all take turns. At most{n}\
              65536 steps [default: none]",
+        ))?
+        .arg(flag(
+            alloc,
+            "threads",
+            "Runs on a thread for each channel and one for the metadata, in place of{n}\
+             taking turns; --schedule can't be there then",
         ))
 }
 

@@ -32,10 +32,11 @@ pub struct FormatOptions<'a> {
 /// A command, with the texts of what stands behind it.
 #[derive(Clone, Copy, Debug)]
 pub enum CommandWords<'a> {
-    /// `run IMAGE`, with the text of a schedule, if there is one.
+    /// `run IMAGE`, with the text of a schedule, if there is one, and whether `--threads` is there.
     Run {
         image: &'a str,
         schedule: Option<&'a str>,
+        threads: bool,
     },
     /// `format IMAGE`, with the texts of its options.
     Format {
@@ -84,13 +85,26 @@ fn text_of<'a>(found: &ArgMatches<'a>, id: &str) -> Option<&'a str>
     found.get_str(id)
 }
 
+/// Whether an option without a value is there.
+fn has_flag(found: &ArgMatches, name: &str) -> bool
+    ensures { result ≡ said.has_flag name.now (rows_of (found_of found.now)) }
+{
+    match text_of(found, name) {
+        Some(text) => text == "true",
+        None => false,
+    }
+}
+
 /// A `run` with what was found behind it.
 fn run_of<'a>(found: &ArgMatches<'a>) -> Option<CommandWords<'a>>
     ensures { option_map as_read result ≡ said.run_asked (rows_of (found_of found.now)) }
 {
     let image = text_of(found, "IMAGE")?;
-    let schedule = text_of(found, "schedule");
-    Some(CommandWords::Run { image, schedule })
+    Some(CommandWords::Run {
+        image,
+        schedule: text_of(found, "schedule"),
+        threads: has_flag(found, "threads"),
+    })
 }
 
 /// A `format` with what was found behind it.

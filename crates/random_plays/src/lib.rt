@@ -6,4 +6,4 @@ mod plays;
 
 pub use leavings::{expect_left, number_at, number_in_family};
 pub use plays::{Play, new_store, new_stores, play_of, size_of, store_for};
-pub use test_runs::{Call, Ran, Status, perform, play, run};
+pub use test_runs::{Call, Ran, Status, perform, perform_on_threads, play, run};

@@ -5,11 +5,14 @@ use crate::replays::Replay;
 use crate::schedules::push_schedule;
 use page_disk::{MemDisk, PageDisk};
 use random_plays::{
-    Call, Ran, Status, number_at, number_in_family, perform, run, size_of, store_for,
+    Call, Ran, Status, number_at, number_in_family, perform, perform_on_threads, run, size_of,
+    store_for,
 };
 use random_worlds::{Draws, World};
 use std::alloc::Global;
+use std::sync::Wait;
 use std::test::Fail;
+use std::thread::Threads;
 
 /// A store, the script that made its volumes, and what that printed.
 #[derive(Drop)]
@@ -163,6 +166,17 @@ impl ChannelPlay {
     pub fn run<D: PageDisk + Drop + Send>(&self, alloc: Global, disk: D) -> Result<Ran<D>, Fail> {
         let Drawn { script, line, .. } = &self.drawn;
         perform(alloc, &Call::new(line.as_str(), &script.text), disk)
+    }
+
+    /// What comes of the script on a device by threads, a channel each.
+    pub fn run_on_threads<R: Threads + Wait + Sync, D: PageDisk + Drop + Send>(
+        &self,
+        rt: &R,
+        alloc: Global,
+        disk: D,
+    ) -> Result<Ran<D>, Fail> {
+        let call = Call::new("run store.img --threads", &self.drawn.script.text);
+        perform_on_threads(rt, alloc, &call, disk)
     }
 
     /// The volumes that were made, before the script.

@@ -1,5 +1,5 @@
-//! Random scripts of the verbs that the program serves, on one channel or on many by random schedules: their answers
-//! are those of plain volumes along the log and of counts of what is clear, also where power fails at a call of the
+//! Random scripts of the verbs that the program serves, on one channel or on many by random schedules or by threads: their
+//! answers are those of plain volumes along the log and of counts of what is clear, also where power fails at a call of the
 //! device. In five hundred of those on one channel families of volumes grow, and one in five of these is stopped after
 //! each call of the device.
 #![tactic(auto)]
@@ -24,5 +24,7 @@ mod long_families;
 mod replays;
 #[cfg(test)]
 mod schedules;
+#[cfg(test)]
+mod thread_runs;
 #[cfg(test)]
 mod whole;

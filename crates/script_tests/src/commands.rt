@@ -5,23 +5,32 @@ use command_words::{read_words, refusal};
 use std::test::Fail;
 
 /// Words behind the program's name, and the command that they spell.
-const CASES: [(&str, &str); 16] = [
+const CASES: [(&str, &str); 18] = [
     (
         "run store.img",
-        "Run { image: \"store.img\", schedule: None }",
+        "Run { image: \"store.img\", schedule: None, threads: false }",
     ),
     (
         "run store.img --schedule 0*2,1",
-        "Run { image: \"store.img\", schedule: Some(\"0*2,1\") }",
+        "Run { image: \"store.img\", schedule: Some(\"0*2,1\"), threads: false }",
     ),
     // An option may stand before the image, and have its value behind a `=`. A value isn't tested here.
     (
         "run --schedule=x store.img",
-        "Run { image: \"store.img\", schedule: Some(\"x\") }",
+        "Run { image: \"store.img\", schedule: Some(\"x\"), threads: false }",
+    ),
+    (
+        "run --threads store.img",
+        "Run { image: \"store.img\", schedule: None, threads: true }",
+    ),
+    // Whether both are one too many isn't tested here.
+    (
+        "run store.img --threads --schedule 0",
+        "Run { image: \"store.img\", schedule: Some(\"0\"), threads: true }",
     ),
     (
         "run -- --schedule",
-        "Run { image: \"--schedule\", schedule: None }",
+        "Run { image: \"--schedule\", schedule: None, threads: false }",
     ),
     (
         "format store.img",
@@ -73,7 +82,7 @@ const CASES: [(&str, &str); 16] = [
 ];
 
 /// Words that spell no command.
-const NO_COMMANDS: [&str; 28] = [
+const NO_COMMANDS: [&str; 30] = [
     "",
     "help",
     "help run",
@@ -89,6 +98,8 @@ const NO_COMMANDS: [&str; 28] = [
     "run store.img --schedule",
     "run store.img --schedules 0",
     "run store.img --schedule 0 --schedule 0",
+    "run store.img --threads --threads",
+    "run store.img --threads=1",
     "run store.img --cluster 16384",
     "run store.img --help",
     "run --version",

@@ -38,6 +38,8 @@ Options:
       --schedule <LIST>  The first steps, by who makes them: channels 0 to 15, and m for the
                          metadata thread, as in 0*2,1+m*200; then all take turns. At most
                          65536 steps [default: none]
+      --threads          Runs on a thread for each channel and one for the metadata, in place of
+                         taking turns; --schedule can't be there then
   -h, --help             Print help
 
 Example: blobtool run store.img --schedule 0*2,1*2 < script.txt

@@ -1,9 +1,11 @@
 //! Calls of the program, as an administrator makes them.
 
-use blob_tool::{Status, blobtool};
+use blob_tool::{Gate, OpenGate, Status, blobtool, blobtool_gated};
 use page_disk::PageDisk;
 use std::alloc::Global;
+use std::sync::Wait;
 use std::test::Fail;
+use std::thread::Threads;
 use streams::{ListSink, ListSource};
 
 /// What the program is called with: its words in a line, the script, and which reads of the script and which writes to
@@ -74,6 +76,30 @@ pub fn perform<D: PageDisk + Drop + Send>(
     let (mut source, mut out) = (source_of(alloc, call)?, sink_of(alloc, call)?);
     let (status, disk) = blobtool(alloc, &words, &mut source, &mut out, disk);
     Ok(Ran { status, out, disk })
+}
+
+/// What comes of a call over a device, whose runs by threads are on threads, and whose workers ask this gate.
+pub fn perform_gated<R: Threads + Wait + Sync, D: PageDisk + Drop + Send, G: Gate + Sync>(
+    rt: &R,
+    alloc: Global,
+    call: &Call<'_>,
+    disk: D,
+    gate: &G,
+) -> Result<Ran<D>, Fail> {
+    let words = words_of(alloc, call.line)?;
+    let (mut source, mut out) = (source_of(alloc, call)?, sink_of(alloc, call)?);
+    let (status, disk) = blobtool_gated(rt, alloc, &words, &mut source, &mut out, disk, gate);
+    Ok(Ran { status, out, disk })
+}
+
+/// What comes of a call over a device, whose runs by threads are on threads.
+pub fn perform_on_threads<R: Threads + Wait + Sync, D: PageDisk + Drop + Send>(
+    rt: &R,
+    alloc: Global,
+    call: &Call<'_>,
+    disk: D,
+) -> Result<Ran<D>, Fail> {
+    perform_gated(rt, alloc, call, disk, &OpenGate)
 }
 
 /// What comes of `run IMAGE` with a script, where no read and no write fails.

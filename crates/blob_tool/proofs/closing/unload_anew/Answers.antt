@@ -1,4 +1,4 @@
-use Rattle.std.proofs.Common.{◌≡◌, Ok, Err, Result, subst, sym, ap, ◌∙◌}
+use Rattle.std.proofs.Common.{◌≡◌, subst, sym, ap, ◌∙◌}
 use Rattle.std.proofs.lemmas.Result.{on_ok_weaker}
 use Rattle.clean_stop.specs.Masks.{MasksFit}
 use Rattle.clean_stop.specs.Stopping.{with_clean, IsUnloaded, IsUnloading}

@@ -1,4 +1,4 @@
-use Rattle.std.proofs.Common.{◌≡◌, ⊎_elim, ap, inl, inr}
+use Rattle.std.proofs.Common.{⊎_elim, ap, inl, inr}
 use Rattle.std.proofs.lemmas.Result.{on_ok_weaker}
 use Rattle.page_disk.specs.Disk.{Image}
 use Rattle.page_disk.proofs.Moments.{weaker}

@@ -1,5 +1,5 @@
-use Rattle.std.proofs.Common.{◌≡◌, ◌≤◌, ◌<◌, ◌+◌, ◌∙◌, [], ap, arith}
-use Rattle.blob_tool.proofs.GeneratedLines.{line_is, line_text, part_before, part_of_line, with_line}
+use Rattle.std.proofs.Common.{◌≤◌, ◌<◌, ◌+◌, ◌∙◌, ap, arith}
+use Rattle.blob_tool.proofs.GeneratedLines.{line_is, part_before, part_of_line, with_line}
 use Rattle.blob_tool.proofs.generating.print_script.Goals as goal
 
 pub returns-in_err-push_line-clause-part : goal.returns-in_err-push_line-clause-part

@@ -7,7 +7,7 @@ use Rattle.volume_model.specs.declared.reply.Reply.TheVariants as r
 use Rattle.blob_tool.proofs.laws.undisturbed_runs_tell_no_fault.Goals as goal
 
 pub returns : goal.returns
-returns g c script script_now out out_now before back from schedule ran fails =
+returns g c script script_now out out_now before back from drive ran fails =
     let d = g.D.PageDisk in
     let played = ran.ended.0 in
     let started = ran.started.as_found in

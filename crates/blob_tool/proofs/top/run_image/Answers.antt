@@ -1,91 +1,26 @@
-use Rattle.std.proofs.Common.{refl, subst, sym}
-use Rattle.md_chain.proofs.DeviceWalk.{no_read}
-use Rattle.blob_tool.specs.Outcome.{Outcome}
-use Rattle.blob_tool.specs.declared.status.Status.{Status}
-use Rattle.blob_tool.proofs.Complete.{done_from}
-use Rattle.blob_tool.proofs.Ending.{of_a_fault, of_a_run}
-use Rattle.blob_tool.proofs.FoundStore.{found_by, read_as}
-use Rattle.blob_tool.proofs.HavingCommands.{no_usage, only_memory, unread, unread_without, without_commands}
+use Rattle.blob_tool.proofs.ReadyRuns.{done_when_ready, no_usage_when_ready, of_a_ready_store}
 use Rattle.blob_tool.proofs.top.run_image.Goals as goal
 
-pub play-requires-clause-read : goal.play-requires-clause-read
-play-requires-clause-read g c =
-    let x = c.in-Ok-load.ensures in
-    read_as g.D.PageDisk c.args.disk c.in-Ok-load.loaded x.same x.device_pages x.super_block x.holds x.found
+pub returns-in-Ok-clause-no_usage : goal.returns-in-Ok-clause-no_usage
+returns-in-Ok-clause-no_usage g c =
+    no_usage_when_ready g.S.Source c.args.script.now c.prepare.new.script g.D.PageDisk g.K.Sink c.args.out.now c.finish.new.out
+    c.args.disk c.finish.result.1 c.args.from c.args.by c.in-Ok.ready.quick c.in-Ok.ready.plant c.in-Ok.ensures.ready
+    c.drive_store-plant.result.0 c.drive_store-plant.ensures.opening c.drive_store-plant.result.2 c.finish.result.0
+    c.drive_store-plant.ensures.follows c.drive_store-plant.ensures.memory c.finish.ensures
 
-pub returns-in-Ok-load-clause-outcome : goal.returns-in-Ok-load-clause-outcome
-returns-in-Ok-load-clause-outcome g c =
-    let d = g.D.PageDisk in
-    let loaded = c.in-Ok-load.loaded in
-    let x = c.in-Ok-load.ensures in
-    of_a_run g.S.Source c.args.script.now c.commands_of.new.source d g.K.Sink c.args.out.now c.play.new.out c.args.disk
-    c.play.result.1 c.args.from c.args.schedule.now c.in-Ok.commands loaded c.play.result.0 c.in-Ok.ensures.commands
-    (λ first opened. record {
-      found = found_by d c.args.disk loaded x.same x.super_block x.found x.quick x.accepted x.says x.recovered
-          x.no_fault;
-      opened = opened;
-    }) x.same c.play.ensures
+pub returns-in-Ok-clause-outcome : goal.returns-in-Ok-clause-outcome
+returns-in-Ok-clause-outcome g c =
+    of_a_ready_store g.S.Source c.args.script.now c.prepare.new.script g.D.PageDisk g.K.Sink c.args.out.now c.finish.new.out
+    c.args.disk c.finish.result.1 c.args.from c.args.by c.in-Ok.ready.quick c.in-Ok.ready.plant c.in-Ok.ensures.ready
+    c.drive_store-plant.result.0 c.drive_store-plant.ensures.opening c.drive_store-plant.result.2 c.finish.result.0
+    c.drive_store-plant.ensures.follows c.drive_store-plant.ensures.memory c.finish.ensures
 
-pub returns-in-Ok-load-clause-complete : goal.returns-in-Ok-load-clause-complete
-returns-in-Ok-load-clause-complete g c fails =
-    let d = g.D.PageDisk in
-    let loaded = c.in-Ok-load.loaded in
-    let x = c.in-Ok-load.ensures in
-    done_from g.S.Source c.args.script.now c.commands_of.new.source d g.K.Sink c.args.out.now c.play.new.out c.args.disk
-    c.play.result.1 c.args.from fails loaded x.same c.in-Ok.commands c.args.schedule.now
-    c.play.result.0
-    (λ first opened. record {
-      script_is = c.in-Ok.ensures.commands;
-      loaded = loaded;
-      as_found = record {
-        found = found_by d c.args.disk loaded x.same x.super_block x.found x.quick x.accepted x.says x.recovered
-            x.no_fault;
-        opened = opened;
-      };
-    }) c.play.ensures
+pub returns-in-Ok-clause-complete : goal.returns-in-Ok-clause-complete
+returns-in-Ok-clause-complete g c =
+    done_when_ready g.S.Source c.args.script.now c.prepare.new.script g.D.PageDisk g.K.Sink c.args.out.now c.finish.new.out
+    c.args.disk c.finish.result.1 c.args.from c.args.by c.in-Ok.ready.quick c.in-Ok.ready.plant c.in-Ok.ensures.ready
+    c.drive_store-plant.result.0 c.drive_store-plant.ensures.opening c.drive_store-plant.result.2 c.finish.result.0
+    c.drive_store-plant.ensures.follows c.drive_store-plant.ensures.memory c.finish.ensures
 
-pub returns-in-Err-load-clause-outcome : goal.returns-in-Err-load-clause-outcome
-returns-in-Err-load-clause-outcome g c =
-    let d = g.D.PageDisk in
-    subst (λ (st : Status). Outcome g.S.Source c.args.script.now c.commands_of.new.source d g.K.Sink c.args.out.now
-    c.args.out.now c.args.disk c.in-Err-load.disk c.args.from c.args.schedule.now st) (sym c.from.ensures)
-    (of_a_fault g.S.Source c.args.script.now c.commands_of.new.source d g.K.Sink c.args.out.now c.args.out.now
-    c.args.disk
-    c.in-Err-load.disk c.args.from c.args.schedule.now c.in-Err-load.fault
-    (record { quiet = refl; device = c.in-Err-load.ensures.same })
-    (record { commands = c.in-Ok.commands; script_is = c.in-Ok.ensures.commands })
-    c.in-Err-load.ensures.counted
-    (λ of_image no_fault. record {
-      of_image = of_image;
-      first = c.in-Err-load.ensures.cause;
-      refused = λ t. c.in-Err-load.ensures.refused t of_image;
-      no_fault = no_fault;
-    }))
-
-pub returns-in-Err-clause-no_usage : goal.returns-in-Err-clause-no_usage
-returns-in-Err-clause-no_usage g c =
-    no_usage g.S.Source c.args.script.now c.commands_of.new.source c.args.from c.in-Err.status c.in-Err.ensures.why
-
-pub returns-in-Err-clause-outcome : goal.returns-in-Err-clause-outcome
-returns-in-Err-clause-outcome g c =
-    let d = g.D.PageDisk in
-    without_commands g.S.Source c.args.script.now c.commands_of.new.source d g.K.Sink c.args.out.now c.args.disk
-    (no_read d c.args.disk) c.args.from c.args.schedule.now c.in-Err.status c.in-Err.ensures.why
-
-pub returns-in-Err-clause-complete : goal.returns-in-Err-clause-complete
-returns-in-Err-clause-complete g c fails =
-    only_memory g.S.Source c.args.script.now c.commands_of.new.source c.args.from c.in-Err.status fails.script_is
-    c.in-Err.ensures.why
-
-pub returns-in-Err-clause-unread : goal.returns-in-Err-clause-unread
-returns-in-Err-clause-unread g c =
-    unread_without g.S.Source c.args.script.now c.commands_of.new.source c.args.from c.in-Err.status
-    c.in-Err.ensures.why
-
-pub returns-in-Ok-load-clause-unread : goal.returns-in-Ok-load-clause-unread
-returns-in-Ok-load-clause-unread g c =
-    unread g.S.Source c.args.script.now c.commands_of.new.source c.args.from c.in-Ok.commands c.in-Ok.ensures.commands
-
-pub returns-in-Err-load-clause-unread : goal.returns-in-Err-load-clause-unread
-returns-in-Err-load-clause-unread g c =
-    unread g.S.Source c.args.script.now c.commands_of.new.source c.args.from c.in-Ok.commands c.in-Ok.ensures.commands
+pub returns-clause-outcome : goal.returns-clause-outcome
+returns-clause-outcome g c = c.in-Err.ensures.outcome c.args.by c.args.out.now

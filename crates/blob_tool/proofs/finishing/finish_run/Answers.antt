@@ -1,14 +1,11 @@
 use Rattle.std.proofs.Common.{◌≡◌, ◌≤◌, List, ◌++◌, OnOk, ap, length, sym, subst, ◌∙◌, arith}
 use Rattle.volume_model.specs.declared.reply.Entry.{Entry}
 use Rattle.streams.specs.Printing.{IsPartOf}
-use Rattle.std.specs.FinMap as map
 use Rattle.clean_stop.specs.Masks.{MasksFit}
 use Rattle.super_block.specs.Faults.{IsFaultless}
 use Rattle.super_block.specs.declared.page.Super.{Super}
 use Rattle.running_store.specs.Running.{super_left}
 use Rattle.blob_tool.specs.Closing.{Closes, IsClosed}
-use Rattle.blob_tool.specs.Found.{ReadsAs}
-use Rattle.blob_tool.specs.Repairing.{AreMade}
 use Rattle.blob_tool.specs.RunScripts.{printed_text}
 use Rattle.blob_tool.specs.Runs.{Ended, Played}
 use Rattle.blob_tool.proofs.Closed.{closes_at_most}
@@ -18,16 +15,14 @@ use Rattle.blob_tool.proofs.RunLasts.{lasting}
 use Rattle.blob_tool.proofs.ClosedSurvives.{at_opening, survives_to_its_end}
 use Rattle.blob_tool.proofs.RunSurvives.{load_laws}
 use Rattle.blob_tool.proofs.WholeRun.{is_run}
-use Rattle.running_store.specs.StoreView.{base_of, StoreView}
-use Rattle.store_core.specs.Opening.{AreRows}
-use Rattle.blob_tool.proofs.playing.run_repaired.Goals as goal
+use Rattle.blob_tool.proofs.finishing.finish_run.Goals as goal
 
 pub overflow_cast-len : goal.overflow_cast-len
 overflow_cast-len g c = let few = c.into_parts-disk.ensures.few in let is = c.len.ensures in omega (arith, few, is)
 
 pub close-ended-requires-clause-faultless : goal.close-ended-requires-clause-faultless
 close-ended-requires-clause-faultless g c =
-    let store = c.run_stepwise-plant.result.0 in
+    let store = c.args.plant in
     let kept = c.into_parts-disk.ensures.kept in
     subst IsFaultless (sym c.into_parts-disk.ensures.sup)
     (c.unloaded_masks_are_read.ensures.faultless store.at.super _
@@ -40,20 +35,19 @@ close-ended-requires-clause-device g c =
 
 pub close-ended-requires-clause-masks : goal.close-ended-requires-clause-masks
 close-ended-requires-clause-masks g c = λ none.
-    let store = c.run_stepwise-plant.result.0 in
+    let store = c.args.plant in
     subst (λ (s : Super). MasksFit s c.into_parts-disk.result.masks) (sym c.into_parts-disk.ensures.sup)
     (masks_fit store.at.clean store.at.super _ _ c.into_parts-disk.result.masks
     (c.into_parts-disk.ensures.masks (sym c.stopped-stopped.ensures ∙ none)))
 
 pub returns : goal.returns
-returns g c script rows made unstopped unmarked =
+returns g c script drive repaired rows made unstopped unmarked follows =
     let d = g.D.PageDisk in
     let k = g.K.Sink in
     let law = g.met.D.PageDisk.telling in
-    let store = c.run_stepwise-plant.result.0 in
+    let store = c.args.plant in
     let kept = c.into_parts-disk.ensures.kept in
     let back = c.close-ended.new.disk in
-    let same : store.opening ≡ c.args.plant.opening = c.run_stepwise-plant.ensures.opening in
     let entries : c.as_slice.result.now ≡ store.at.log = c.as_slice.ensures ∙ c.into_parts-disk.ensures.entries in
     let count : c.len.result ≡ length store.at.log =
     c.len.ensures ∙ ap (λ (l : List Entry). length l) c.into_parts-disk.ensures.entries in
@@ -72,19 +66,12 @@ returns g c script rows made unstopped unmarked =
     c.clean_stores_are_quick.ensures.listed c.fixed_clusters_decide.ensures.accepted
     c.fixed_clusters_decide.ensures.quick c.fixed_clusters_decide.ensures.no_head
     c.unloaded_masks_are_read.ensures.apart in
-    let read = subst (λ (p : StoreView g.row.D.Denot). ReadsAs d c.args.quick p.super (base_of p.metas p.marked)
-    (map.get p.chains) p.disk) (sym same) c.requires.read in
-    let made_here : AreMade d store.opening c.args.plant.at =
-    subst (λ (first : StoreView g.row.D.Denot). AreMade d first c.args.plant.at) (sym same) made in
-    let rows_here = subst (λ (first : StoreView g.row.D.Denot). AreRows script first.rows) (sym same) rows in
-    let played : Played d script c.args.schedule.now c.args.from k c.args.out.now c.report-printed.new.out back
+    let read = c.requires.read in
+    let played : Played d script drive c.args.from k c.args.out.now c.report-printed.new.out back
     store.opening = record {
       last = store.at;
-      run = is_run d script store kept rows_here c.run_stepwise-plant.ensures.ended c.args.plant.at made_here unstopped
-          unmarked
-          c.args.schedule.now
-          c.run_stepwise-plant.ensures.follows c.state_stops.ensures
-          c.run_stepwise-plant.ensures.no_job c.run_stepwise-plant.ensures.unused;
+      run = is_run d script store kept rows c.requires.ended repaired made unstopped unmarked drive follows
+          c.state_stops.ensures c.inserts_commit_once.ensures;
       masks = masks;
       claims = c.into_parts-disk.ensures.masks;
       device = closes_at_most d sup masks store.at.disk back law c.args.quick (length store.at.log)
@@ -99,14 +86,9 @@ returns g c script rows made unstopped unmarked =
           (λ (l : List Entry). IsPartOf (k.written c.args.out.now) (k.written c.report-printed.new.out)
           (printed_text c.args.from l)) entries (c.report-printed.ensures.part tells);
     } in
-    subst
-    (λ (first : StoreView g.row.D.Denot). Ended d script c.args.schedule.now c.args.from k c.args.out.now
-    c.report-printed.new.out
-    back first c.of_run.result) same
-    (subst
-    (Ended d script c.args.schedule.now c.args.from k c.args.out.now c.report-printed.new.out back store.opening)
+    subst (Ended d script drive c.args.from k c.args.out.now c.report-printed.new.out back store.opening)
     (sym c.of_run.ensures)
-    (ends d script c.args.schedule.now c.args.from k c.args.out.now c.report-printed.new.out back store.opening played
+    (ends d script drive c.args.from k c.args.out.now c.report-printed.new.out back store.opening played
     c.args.quick c.stopped-stopped.result c.close-ended.result c.report-printed.result
     (sym c.stopped-stopped.ensures) closes
     (λ closed runs sound. lasting d laws law store kept c.args.quick read sound runs masks
@@ -116,4 +98,4 @@ returns g c script rows made unstopped unmarked =
     (λ tells. subst
     (λ (l : List Entry). OnOk c.report-printed.result
     (k.written c.report-printed.new.out ≡ k.written c.args.out.now ++ printed_text c.args.from l)) entries
-    (c.report-printed.ensures.whole tells)) c.report-printed.ensures.cause))
+    (c.report-printed.ensures.whole tells)) c.report-printed.ensures.cause)

@@ -1,4 +1,4 @@
-use Rattle.std.proofs.Common.{◌≡◌, ◌∙◌, List, inl, inr, subst, sym}
+use Rattle.std.proofs.Common.{◌≡◌, ◌∙◌, List, inl, inr, rules, subst, sym}
 use Rattle.std.specs.FinMap as map
 use Rattle.page_disk.specs.declared.disk.PageDisk as disk
 use Rattle.running_store.specs.declared.loaded.Loaded.{Loaded}
@@ -7,9 +7,9 @@ use Rattle.volume_model.specs.declared.command.Command.{Command}
 use Rattle.store_core.specs.Opening.{IsOpened}
 use Rattle.blob_tool.specs.Found.{ReadsAs}
 use Rattle.blob_tool.specs.Repairing.{EndedInRepair, EndsRepairs}
-use Rattle.blob_tool.proofs.EndedInRepair.{ended_in_repair, none_left}
+use Rattle.blob_tool.proofs.EndedInRepair.{ended_in_repair, no_usage_of_repairs, none_left}
 use Rattle.blob_tool.proofs.RunSurvives.{load_laws}
-use Rattle.blob_tool.proofs.playing.play.Goals as goal
+use Rattle.blob_tool.proofs.opening.open_store.Goals as goal
 
 -- a store that is opened is read as it was loaded
 read_at_opening : {D : Type 0} (d : disk.Ghosts D) (loaded : Loaded D) (script : List (List Command)) (p : StoreView D)
@@ -20,19 +20,10 @@ read_at_opening {D} d loaded script p opened read =
     subst (λ (q : StoreView D). ReadsAs d loaded.quick q.super (base_of q.metas q.marked) (map.get q.chains) q.disk)
     (sym opened.at) read
 
-pub run_repaired-requires-clause-read : goal.run_repaired-requires-clause-read
-run_repaired-requires-clause-read g c =
-    let d = g.D.PageDisk in
-    let b = c.repair-end.new.plant in
-    let same : c.in-Ok.made.0.at ≡ b.opening = sym (c.repair-end.ensures.opening ∙ c.in-Ok.ensures.opening) in
-    read_at_opening d c.args.loaded c.args.script b.opening
-    (subst (IsOpened d c.args.loaded c.args.script) same c.in-Ok.ensures.opened) c.requires.read
-
-pub returns-in-Some : goal.returns-in-Some
-returns-in-Some g c =
+pub returns-in-Some-clause-ended : goal.returns-in-Some-clause-ended
+returns-in-Some-clause-ended g c from drive out =
     let d = g.D.PageDisk in
     let k = g.K.Sink in
-    let out = c.args.out.now in
     let b = c.repair-end.new.plant in
     let same : c.in-Ok.made.0.at ≡ b.opening = sym (c.repair-end.ensures.opening ∙ c.in-Ok.ensures.opening) in
     let opened = subst (IsOpened d c.args.loaded c.args.script) same c.in-Ok.ensures.opened in
@@ -55,17 +46,25 @@ returns-in-Some g c =
           ),
     )
 
-pub returns-in-None : goal.returns-in-None
-returns-in-None g c =
+pub returns-in-Some-clause-no_usage : goal.returns-in-Some-clause-no_usage
+returns-in-Some-clause-no_usage g c =
+    no_usage_of_repairs c.repair-end.result c.in-Some.status (sym c.status.ensures ∙ c.in-Some.is)
+
+pub returns-in-None-clause-mended : goal.returns-in-None-clause-mended
+returns-in-None-clause-mended g c =
     let d = g.D.PageDisk in
     let b = c.repair-end.new.plant in
     let same : c.in-Ok.made.0.at ≡ b.opening = sym (c.repair-end.ensures.opening ∙ c.in-Ok.ensures.opening) in
     let opened = subst (IsOpened d c.args.loaded c.args.script) same c.in-Ok.ensures.opened in
     let ends = subst (λ (p : StoreView g.row.D.Denot). EndsRepairs d p b.at c.repair-end.result) same
     c.repair-end.ensures.ended in
-    let repaired = none_left d b.at c.repair-end.result (sym c.status.ensures ∙ c.in-None.is) ends.ended in
-    inl (
-      b.opening,
-      opened,
-      inl (c.run_repaired.ensures c.args.script opened.rows ends.made repaired.0 repaired.1),
-    )
+    let left = none_left d b.at c.repair-end.result (sym c.status.ensures ∙ c.in-None.is) ends.ended in
+    record {
+      opened = opened;
+      read = read_at_opening d c.args.loaded c.args.script b.opening opened c.requires.read;
+      made = ends.made;
+      unstopped = left.0;
+      unmarked = left.1;
+      seventeen = search rules;
+      repaired = search rules;
+    }
