@@ -1,11 +1,12 @@
-//! Replays device calls over a file: reads them from standard input, a line each (`r PAGE`, `w PAGE` or `f`), prints
-//! how many they are, and then makes just these, on pages of 4096 bytes. Who times them begins at that line.
+//! Replays device calls over a file: reads them from standard input, a line each (`r PAGE`, `w PAGE`, `w PAGE PAGES`
+//! or `f`), prints how many they are, and then makes just these, on pages of 4096 bytes. Who times them begins at that
+//! line.
 #![tactic(auto)]
 
 mod call;
 
 use anyhow::{Result, bail};
-use call::Call;
+use call::{Call, MOST_BYTES};
 use std::env;
 use std::fs::File;
 use std::io::Read;
@@ -42,8 +43,9 @@ fn main(rt: HostRuntime) -> Result<()> {
     let calls = listed_calls(&rt)?;
     println!(rt; "{} calls", calls.len())?;
     let mut page = [1; 4096];
+    let bytes = vec![in rt.alloc(); 1; MOST_BYTES]?;
     for call in calls.as_slice() {
-        call.make(&file, &mut page)?;
+        call.make(&file, &mut page, bytes.as_slice())?;
     }
     Ok(())
 }

@@ -9,7 +9,7 @@ use Rattle.std.proofs.lemmas.List.FromFn.{length-map-range_with_len, get_or-map-
 use mathlib.Core.Path.{fun_ext}
 use Rattle.page_disk.specs.Disk.{with_page}
 use Rattle.page_disk.proofs.Images.{with_page-here, with_page-elsewhere}
-use Rattle.file_disk.specs.FileCalls.{FileBytes, IsPageAt, bytes_from, moved_page, pages_in, with_bytes}
+use Rattle.file_disk.specs.FileCalls.{FileBytes, IsPageAt, bytes_from, moved_pages, pages_in, with_bytes}
 
 apart : (p q : ℕ) → p ≢ q → (p < q) ⊎ (q < p)
 apart p q other = ⊎_elim (λ below. inl below) (λ (above : q ≤ p). inr (omega arith)) (cases_lt p q)
@@ -84,13 +84,13 @@ module _ (file : FileBytes) (place offset : ℕ) (bytes : List ℕ) (is_page : I
       (cases_eq p place))
 
 -- what a call that moved a whole page says of its count
-of_page : {E : Type 0} (P : ℕ → Type 0) (answer : Result ℕ E) → moved_page answer ≡ true → IfOk answer P → P 4096
+of_page : {E : Type 0} (P : ℕ → Type 0) (answer : Result ℕ E) → moved_pages 1 answer ≡ true → IfOk answer P → P 4096
 of_page P (Ok count) whole says = subst P ((Decides-eqb count 4096).0 whole) says
 of_page P (Err error) whole says = cc
 
 -- a page that was read whole
 pub page_read : {E : Type 0} (file : FileBytes) (page : ℕ) (into : List ℕ) (answer : Result ℕ E)
-    → length into ≡ 4096 → moved_page answer ≡ true
+    → length into ≡ 4096 → moved_pages 1 answer ≡ true
     → IfOk answer (λ count. (i : ℕ) → i < count → get_or into i 0 ≡ file (page * 4096 + i))
     → into ≡ pages_in file page
 page_read file page into answer long whole says =

@@ -1,7 +1,7 @@
 //! The disk over a file.
 
 ghost use Rattle.std.specs.Prelude.{◌≡◌, [], IfOk};
-ghost use Rattle.file_disk.specs.FileCalls.{file_after, may_leave, might_leave_since, moved_page, pages_in, ticks};
+ghost use Rattle.file_disk.specs.FileCalls.{file_after, may_leave, might_leave_since, moved_pages, pages_in, ticks};
 ghost use Rattle.file_disk.specs.FileDisks.{unused};
 ghost use Rattle.file_disk.specs.Recorded.{is_telling};
 
@@ -9,8 +9,8 @@ use crate::page_calls::PageCalls;
 use crate::page_file::PageFile;
 use page_disk::{DiskFault, Page, PageDisk, WriteKind};
 use std::fs::File;
-use std::io;
 use std::marker::Model;
+use std::{io, slice};
 
 /// A disk whose page p is the 4096 bytes of a file from byte 4096 p on. It tells what they hold where its file is one
 /// that reads as its record says. It has as many whole pages as the file had when it was opened; a page that the file
@@ -80,6 +80,21 @@ impl<C: PageCalls> FileDisk<C> {
     {
         &self.file
     }
+
+    /// Gives the file back.
+    pub fn into_file(self) -> C
+        ensures { result ≡ self.file }
+    {
+        let FileDisk {
+            file,
+            pages: _,
+            clock: _,
+            read_faults: _,
+            write_faults: _,
+            reads: _,
+        } = self;
+        file
+    }
 }
 
 impl<C: PageCalls> PageDisk for FileDisk<C> {
@@ -123,7 +138,7 @@ impl<C: PageCalls> PageDisk for FileDisk<C> {
             self.write_faults = self.write_faults.saturating_add(1);
             return Err(DiskFault);
         }
-        if is_whole(self.file.write_at(from, page * 4096, kind)) {
+        if is_whole(self.file.write_at(slice::from_ref(from), page * 4096, kind)) {
             self.clock += 1;
             return Ok(());
         }
@@ -149,7 +164,7 @@ impl<C: PageCalls> PageDisk for FileDisk<C> {
 
 /// Whether the call moved a whole page.
 fn is_whole(answer: io::Result<usize>) -> bool
-    ensures { result ≡ moved_page answer }
+    ensures { result ≡ moved_pages 1 answer }
 {
     matches!(answer, Ok(4096))
 }

@@ -1,9 +1,9 @@
 //! What the system said of a call of a file that failed.
 
-use page_disk::Page;
 use std::io::{self, ErrorKind};
 
-/// Which call of a file failed: the read or the write of the page with this number, or a sync.
+/// Which call of a file failed: the read of the page with this number, the write of it or of a run that begins with it,
+/// or a sync.
 #[derive(Clone, Copy, Debug, PartialEq, Eq)]
 pub enum FailedCall {
     ReadPage(u64),
@@ -11,7 +11,7 @@ pub enum FailedCall {
     Sync,
 }
 
-/// A call of a file that failed, and why. One that moved a part of a page alone failed too: a read at the file's end
+/// A call of a file that failed, and why. One that moved a part of its bytes alone failed too: a read at the file's end
 /// (`UnexpectedEof`), a write that wasn't taken whole (`WriteZero`).
 #[derive(Clone, Copy, Debug)]
 pub struct FileFailure {
@@ -19,10 +19,14 @@ pub struct FileFailure {
     pub error: io::Error,
 }
 
-/// Why a call that was to move a page didn't, if so, where this is said of one that moved a part.
-pub(crate) fn why_not_whole(answer: &io::Result<usize>, part: ErrorKind) -> Option<io::Error> {
+/// Why a call that was to move so many bytes didn't, if so, where this is said of one that moved a part.
+pub(crate) fn why_not_whole(
+    answer: &io::Result<usize>,
+    bytes: usize,
+    part: ErrorKind,
+) -> Option<io::Error> {
     match answer {
-        Ok(count) if *count == size_of::<Page>() => None,
+        Ok(count) if *count == bytes => None,
         Ok(_) => Some(io::Error::from(part)),
         Err(error) => Some(*error),
     }

@@ -8,7 +8,9 @@ mod failure;
 mod memory_file;
 mod page_calls;
 mod page_file;
+mod run_notes;
 
+pub use call_notes::CallNotes;
 pub use disk::FileDisk;
 pub use failure::{FailedCall, FileFailure};
 pub use memory_file::MemFile;

@@ -1,7 +1,7 @@
 //! A file in memory that reads as its record says.
 
-ghost use Rattle.std.specs.Prelude.{◌≡◌, ◌+◌, ◌<◌, ◌≤◌, ℕ, true, IfOk, [], length, get_or};
-ghost use Rattle.file_disk.specs.FileCalls.{FileBytes, HasBytes, blank, file_after, with_bytes};
+ghost use Rattle.std.specs.Prelude.{◌≡◌, ◌+◌, ◌*◌, ◌<◌, ◌≤◌, ℕ, true, IfOk, [], length, get_or};
+ghost use Rattle.file_disk.specs.FileCalls.{FileBytes, HasBytes, blank, file_after, with_bytes, with_run};
 ghost use Rattle.file_disk.specs.Notes.{calls_noted};
 
 use crate::call_notes::CallNotes;
@@ -9,7 +9,6 @@ use crate::page_calls::PageCalls;
 use page_disk::{Memory, Page, WriteKind};
 use std::alloc::Global;
 use std::io::{self, ErrorKind};
-use std::snapshot::Snapshot;
 
 /// A file of zeros in memory, which takes so many writes and syncs, and fails each later one.
 #[derive(Drop)]
@@ -32,7 +31,7 @@ impl MemFile {
             bytes,
             pages,
             calls_left: calls,
-            notes: CallNotes::Opened,
+            notes: CallNotes::new(),
         })
     }
 }
@@ -59,33 +58,21 @@ impl PageCalls for MemFile {
         Ok(4096)
     }
 
-    fn write_at(&mut self, from: &Page, offset: u64, kind: WriteKind) -> io::Result<usize> {
+    fn write_at(&mut self, from: &[Page], offset: u64, kind: WriteKind) -> io::Result<usize> {
         let at = offset as usize;
-        let fits = self.bytes.len() >= 4096 && at <= self.bytes.len() - 4096;
+        let fits = at <= self.bytes.len() && from.len() <= (self.bytes.len() - at) / 4096;
         if !fits || !takes_call(&mut self.calls_left) {
-            self.notes = CallNotes::Wrote(
-                Snapshot::of(&self.notes),
-                offset,
-                Snapshot::of(from),
-                kind,
-                false,
-            );
+            self.notes.note_write(from, offset, kind, false);
             return Err(io::Error::from(ErrorKind::Other));
         }
-        put_at(&mut self.bytes, at, from);
-        self.notes = CallNotes::Wrote(
-            Snapshot::of(&self.notes),
-            offset,
-            Snapshot::of(from),
-            kind,
-            true,
-        );
-        Ok(4096)
+        put_run(&mut self.bytes, at, from);
+        self.notes.note_write(from, offset, kind, true);
+        Ok(from.len() * 4096)
     }
 
     fn sync(&mut self) -> io::Result<()> {
         let takes = takes_call(&mut self.calls_left);
-        self.notes = CallNotes::Synced(Snapshot::of(&self.notes), takes);
+        self.notes.note_sync(takes);
         if takes {
             Ok(())
         } else {
@@ -107,6 +94,18 @@ fn page_at(bytes: &[u8], at: usize, into: &mut Page)
     ensures { (i : ℕ) → i < 4096 → get_or into.new i 0 ≡ get_or bytes.now (at + i) 0 }
 {
     into.copy_from_slice(&bytes[at..at + 4096]);
+}
+
+/// Puts a run of pages among these bytes from this place on.
+fn put_run(bytes: &mut [u8], at: usize, pages: &[Page])
+    requires { at + length pages.now * 4096 ≤ length bytes.old }
+    ensures { (file : FileBytes) → HasBytes bytes.old file → HasBytes bytes.new (with_run file at pages.now) }
+{
+    let mut place = at;
+    for page in pages {
+        put_at(bytes, place, page);
+        place += 4096;
+    }
 }
 
 /// Puts a page among these bytes from this place on.

@@ -8,7 +8,8 @@ use std::process::Abort;
 use std::test::Fail as TestFail;
 use std::{env, fs, process};
 
-fn is_sent<T: Send>(_value: &T) {}
+/// Expects that a value may go to another thread.
+pub(crate) fn is_sent<T: Send>(_value: &T) {}
 
 /// Expects this byte all over a page.
 fn expect_filled<D: PageDisk>(

@@ -8,11 +8,8 @@ mod failure;
 mod fault_words;
 mod held_device;
 mod image;
-#[cfg(test)]
-mod image_line_tests;
+mod image_disk;
 mod kept_input;
-#[cfg(test)]
-mod line_tests;
 mod on_line;
 mod std_sink;
 mod std_source;
@@ -25,7 +22,8 @@ pub use ending::Ending;
 pub use error_line::ErrorLine;
 pub use failure::{CallFailure, SystemCall};
 pub use held_device::DeviceHolder;
-pub use image::{Access, OpenFault, OtherFile, open};
+pub use image::{Access, OpenFault, OtherFile};
+pub use image_disk::{FileDisk, close, open};
 pub use kept_input::KeptInput;
 pub use std_sink::StdSink;
 pub use std_source::StdSource;
@@ -33,6 +31,3 @@ pub use std_streams::{HeldStreams, hold_streams};
 pub use super_words::ImageSizes;
 pub use word_faults::{WordFault, word_fault};
 pub use words::{image_beside, is_asked_for, take_new};
-
-/// The disk over an open file.
-pub type FileDisk = file_disk::FileDisk<file_disk::PageFile>;

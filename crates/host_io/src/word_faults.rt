@@ -22,6 +22,8 @@ pub enum WordFault {
         list: String,
         at: u32,
     },
+    /// `--schedule` and `--threads` are there.
+    Both,
     /// An option is there without the other.
     Alone {
         name: &'static str,
@@ -56,6 +58,9 @@ impl Display for WordFault {
                      m, joined by +, with * and a count up to 65536, separated by commas, at most 65536 steps"
                 )
             }
+            WordFault::Both => f.write_str(
+                "--schedule and --threads are there, wanted one of them at most",
+            ),
             WordFault::Alone { name, wanted } => write!(f, "{name} is there, wanted {wanted} too"),
         }
     }
@@ -154,6 +159,13 @@ fn of_schedule(alloc: Global, list: &str) -> Result<Option<WordFault>, Memory> {
 /// What is wrong with words that `clap` takes: the first word that isn't of its form, or the option that is missing.
 pub fn word_fault(alloc: Global, words: &[String]) -> Result<Option<WordFault>, Memory> {
     match read_words(alloc, words)? {
+        Some(
+            CommandWords::Run {
+                schedule: Some(_),
+                threads: true,
+                ..
+            },
+        ) => Ok(Some(WordFault::Both)),
         Some(
             CommandWords::Run {
                 schedule: Some(list),

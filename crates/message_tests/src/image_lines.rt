@@ -1,9 +1,9 @@
-//! Every line on standard error that tells a fault of an image, word for word, with the exit status.
+//! The lines on a fault of an image.
 
-use crate::line_tests::expect;
-use crate::{Ending, ErrorLine};
+use crate::expecting::expect;
 use blob_meta::MetaFault;
 use blob_tool::{LoadFault, Status};
+use host_io::{Ending, ErrorLine};
 use md_chain::ChainFault;
 use std::test::Fail;
 use super_block::{Region, SuperFault};

@@ -1,0 +1,4 @@
+pub mod Left
+pub mod Gathered
+pub mod RunBytes
+pub mod Steps
