@@ -16,6 +16,8 @@ mod cut_puts;
 #[cfg(test)]
 mod families;
 #[cfg(test)]
+mod family_steps;
+#[cfg(test)]
 mod fills;
 #[cfg(test)]
 mod long_creates;
