@@ -28,6 +28,7 @@ def read_options():
     parser.add_argument("--replay", type=Path, help="a call_replay that is built already")
     parser.add_argument("--runs", type=int, default=5, help="how many runs the median is of")
     parser.add_argument("--only", default="", help="only the rows whose names have this word")
+    parser.add_argument("--slow-sync", type=int, metavar="MICROSECONDS", help="what each sync takes more")
     return parser.parse_args()
 
 
@@ -50,6 +51,14 @@ def bench_in(folder, options):
         bench.replay = (options.replay or built("call_replay", [str(image)])).resolve()
         bench.time_replay_start(options.runs)
     return bench
+
+
+def slow_down_syncs(folder, microseconds):
+    """Makes each sync of the programs that are measured take longer, by a library that is preloaded into them."""
+    library = Path(folder) / "slow_sync.so"
+    subprocess.run(["cc", "-O2", "-shared", "-fPIC", "-o", library, TOP / "bench" / "slow_sync.c", "-ldl"], check=True)
+    os.environ.update(LD_PRELOAD=str(library), SLOW_SYNC=str(microseconds))
+    print(f"each sync takes {microseconds} microseconds more")
 
 
 def processor():
@@ -135,6 +144,8 @@ def main():
     options = read_options()
     with tempfile.TemporaryDirectory(prefix="blobtool-bench-", dir=options.folder) as folder:
         bench = bench_in(folder, options)
+        if options.slow_sync:
+            slow_down_syncs(folder, options.slow_sync)
         print_machine(bench, options.runs)
         measured = measured_rows(bench, options)
         measured_of = {row.workload.name: row.measured for row in measured}

@@ -34,16 +34,20 @@ class Calls:
 
 
 def call_of(line):
-    """The call that a line of strace tells of; None where it reads or writes no whole page, or is another call."""
+    """The call that a line of strace tells of; None where it reads no whole page, writes no whole pages one behind the
+    other, or is another call."""
     if FLUSH.match(line):
         return "f"
     found = ON_BYTES.match(line)
     if not found:
         return None
     name, asked, first, moved = found[1], int(found[2]), int(found[3]), int(found[4])
-    if asked != PAGE or moved != PAGE or first % PAGE != 0:
+    if asked % PAGE != 0 or asked == 0 or moved != asked or first % PAGE != 0:
         return None
-    return f"{'r' if name == 'pread64' else 'w'} {first // PAGE}"
+    if name == "pread64":
+        return f"r {first // PAGE}" if asked == PAGE else None
+    pages = asked // PAGE
+    return f"w {first // PAGE}" if pages == 1 else f"w {first // PAGE} {pages}"
 
 
 def calls_in(trace):

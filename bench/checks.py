@@ -25,19 +25,20 @@ def put_flushes(bench, first):
 
 
 def puts(bench):
-    """How often puts flush, and how often they must: a put flushes before its head is written and behind that, and once
-    more where the chain had pages that are given back."""
+    """How often puts flush, and how often they must: a put flushes behind its head; before that where its chain has
+    other pages; and once more where the chain had pages that are given back. A flush with nothing to make lasting makes
+    no call."""
     long = "x" * 3000
     two_pages = f"0 put v a t:{long}\n0 put v b t:{long}\n"
     return [
-        (f"{PUTS} puts", put_flushes(bench, ""), 2 * PUTS),
+        (f"{PUTS} puts", put_flushes(bench, ""), PUTS),
         (f"{PUTS} puts that give pages back", put_flushes(bench, two_pages), 3 * PUTS),
     ]
 
 
 def strange_calls(rows):
-    """The calls that are none on a whole page, a line for each row that has some."""
+    """The calls that are none on whole pages, a line for each row that has some."""
     for row in rows:
         strange = row.measured.calls.strange
         if strange:
-            yield f"{row.workload.name}: {len(strange)} calls that are not of a page, the first {strange[0]}"
+            yield f"{row.workload.name}: {len(strange)} calls that are not of whole pages, the first {strange[0]}"

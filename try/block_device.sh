@@ -11,7 +11,7 @@ release() {
     swapoff "$device" 2>/dev/null || true
     umount "$folder" 2>/dev/null || true
     losetup --detach "$device"
-    rm -rf "$image" "$folder"
+    rm -rf "$image" "$folder" "$folder.errors"
 }
 trap release EXIT
 
@@ -26,27 +26,34 @@ program blobtool run "$device" <<'END'
 END
 program blobtool list "$device" </dev/null
 
-# refused WORDS..: the program ends with 6, and leaves the device as it is.
+# refused LINE WORDS..: the program ends with 6 and this line on standard error, and leaves the device as it is.
+differs=0
 refused() {
-    local before status=0
+    local line="blobtool: $2 $device: $1" before status=0
     before=$(cksum <"$device")
-    program blobtool "$@" </dev/null || status=$?
-    [ "$status" = 6 ] || { echo "wanted status 6, got $status" && exit 1; }
-    [ "$before" = "$(cksum <"$device")" ] || { echo "the device was written" && exit 1; }
+    program blobtool "${@:2}" </dev/null 2>"$folder.errors" || status=$?
+    head -n 1 "$folder.errors"
+    [ "$status" = 6 ] || { echo "differs: wanted status 6, got $status" && differs=1; }
+    [ "$(grep '^blobtool:' "$folder.errors")" = "$line" ] || { echo "differs: wanted $line" && differs=1; }
+    [ "$before" = "$(cksum <"$device")" ] || { echo "differs: the device was written" && differs=1; }
 }
 
 echo "a store is there: --new refuses it"
-refused format "$device" --new --cluster 16384
+refused "it has a store already, wanted none with --new" format "$device" --new --cluster 16384
 echo "the device is mounted"
 mkfs.ext2 -q "$device"
 mount "$device" "$folder"
-refused format "$device" --cluster 16384
-refused run "$device"
+held="it is mounted, or a part of it, wanted a block device that nobody uses"
+refused "$held" format "$device" --cluster 16384
+refused "$held" run "$device"
 umount "$folder"
 echo "the device is swap space"
 mkswap "$device" >/dev/null 2>&1
 swapon "$device"
-refused format "$device" --cluster 16384
+held="it is swap space, or a part of it, wanted a block device that nobody uses"
+refused "$held" format "$device" --cluster 16384
 swapoff "$device"
 echo "nobody has it any more"
-program blobtool format "$device" --new --cluster 16384 </dev/null
+program blobtool format "$device" --new --cluster 16384 </dev/null || differs=1
+[ "$differs" != 0 ] || echo "all ended as it is wanted"
+exit "$differs"

@@ -9,6 +9,7 @@ program=${BLOBTOOL:-$PWD/crates/blobtool/out/blobtool}
 [ -x "$program" ] || { echo "there is no $program: cd crates/blobtool && rt run -- generate 1 1" && exit 1; }
 work=$(mktemp -d)
 trap 'rm -rf "$work"' EXIT
+gcc -O1 -shared -fPIC -o "$work/failing_calls.so" try/failing_calls.c -ldl || exit 1
 cd "$work"
 differs=0
 
@@ -30,6 +31,15 @@ same() {
 }
 
 blobtool() { "$program" "$@"; }
+
+# failing CALL WORDS: calls the program, and fails it a call on the image, as try/failing_calls.c says.
+failing() {
+    truncate -s 0 counts && truncate -s 32 counts
+    COUNTED_CALLS=$work/counts FAILING_CALLS=$1 LD_PRELOAD=$work/failing_calls.so "$program" "${@:2}"
+}
+
+# counted: how many pages the last failing call of the program read and wrote, and how often it flushed.
+counted() { od -A n -v -t u8 -w8 -j 8 counts | xargs; }
 
 truncate -s 256K i
 blobtool format i --cluster 16384 >out 2>errors
@@ -143,6 +153,35 @@ ended 6 "blobtool: run full: writing page 4 of the image failed: File too large 
 ended 6 "blobtool: format full: writing page 4 of the image failed: File too large (os error 27)"
 blobtool list full >out 2>errors
 ended 0 ""
+cp before full
+echo "0 create v 4 thick" | blobtool run full >out 2>errors
+ended 0 ""
+# The write is answered, and fails where it goes to the file, at the flush that ends the run.
+echo "0 write v 5 1 7" >script
+(trap '' XFSZ && ulimit -f 48 && blobtool run full <script >out 2>errors)
+ended 6 "blobtool: run full: writing page 25 of the image failed: File too large (os error 27), after 1 commands"
+
+echo "== a page takes one call, and what was written before is synced before the first read"
+cp before i
+printf '0 create v 4 thin\n0 create w 4 thin\n' >script
+failing "pwrite 1" run i <script >out 2>errors
+ended 6 "blobtool: run i: writing page 0 of the image failed: it was not taken whole"
+failing "pread 1" list i >out 2>errors
+ended 6 "blobtool: list i: reading page 0 of the image failed: it ends before that"
+failing "fsync 1 5" run i <script >out 2>errors
+ended 6 "blobtool: run i: opening it failed: Input/output error (os error 5)"
+calls=$(counted)
+if [ "$calls" = "0 0 1" ]; then echo "ok     nothing is read or written before the sync"; else
+    echo "differs: reads, writes and syncs are $calls" && differs=1
+fi
+cp before i
+failing "pwrite 2 5" run i <script >out 2>errors
+calls=$(counted)
+cp before i
+failing "pwrite 2" run i <script >out 2>errors
+if [ "$(counted)" = "$calls" ]; then echo "ok     a short write is followed by the calls that a failed one is"; else
+    echo "differs: reads, writes and syncs are $(counted), behind a failed write $calls" && differs=1
+fi
 
 [ "$differs" != 0 ] || echo "all ended as it is wanted"
 exit "$differs"
