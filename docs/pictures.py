@@ -1,5 +1,6 @@
 #!/usr/bin/env python3
-"""Draws docs/crates.svg and docs/commit.svg. Run it where a crate or a device call of the commit has changed."""
+"""Draws docs/crates.svg, docs/commit.svg and docs/threads.svg. Run it where a crate, a device call of the commit or a
+thread of a run has changed."""
 import pathlib
 
 HERE = pathlib.Path(__file__).parent
@@ -48,26 +49,26 @@ class Picture:
 COLUMNS_WIDE, COLUMN, ROW, LEFT, TOP = 6, 150, 70, 170, 20
 # name: first column, last column, row; a crate stands on crates of lower rows alone
 CRATES = {
-    "blobtool": (1, 6, 0), "host_io": (4, 6, 1), "blob_tool": (1, 6, 2), "command_words": (3, 3, 3),
-    "channels": (4, 5, 3),
-    "script_lang": (1, 1, 4), "md_thread": (3, 4, 4), "streams": (6, 6, 4),
-    "lvol_store": (3, 3, 5), "thin_write": (5, 5, 5), "store_format": (1, 1, 5),
-    "unclean_load": (2, 2, 6), "data_path": (5, 5, 6), "blob_report": (6, 6, 6),
-    "store_core": (4, 4, 7), "run_moves": (6, 6, 7), "job_begins": (4, 4, 8),
-    "insert_runs": (6, 6, 8),
-    "channel_turns": (3, 3, 9), "metadata_turns": (4, 4, 9), "repair_runs": (6, 6, 9), "clean_images": (6, 6, 10), "running_store": (3, 4, 10),
-    "md_queue": (1, 1, 11), "io_freeze": (3, 3, 11), "store_model": (4, 4, 11),
-    "md_chain": (2, 2, 12), "pools": (4, 4, 12), "shown_volumes": (6, 6, 12),
-    "md_page": (3, 3, 13), "inflate_delete": (6, 6, 13), "snapshots": (6, 6, 14), "blob_meta": (1, 1, 15),
-    "clean_stop": (4, 4, 15), "descriptors": (1, 1, 16), "super_block": (3, 3, 16), "page_runs": (4, 4, 16),
-    "run_work": (6, 6, 16),
-    "volume_model": (1, 1, 17), "page_fields": (3, 3, 17), "bit_array": (4, 4, 17),
-    "file_disk": (6, 6, 17),
-    "page_disk": (2, 6, 18), "out_of_memory": (1, 2, 19), "crc32c": (3, 6, 19),
+    "blobtool": (1, 6, 0), "host_io": (4, 6, 1), "blob_tool": (1, 6, 2), "command_words": (3, 3, 4),
+    "worker_threads": (5, 5, 3), "channels": (4, 5, 4),
+    "script_lang": (1, 1, 5), "md_thread": (3, 4, 5), "streams": (6, 6, 5),
+    "lvol_store": (3, 3, 6), "thin_write": (5, 5, 6), "store_format": (1, 1, 6),
+    "unclean_load": (2, 2, 7), "data_path": (5, 5, 7), "blob_report": (6, 6, 7),
+    "store_core": (4, 4, 8), "run_moves": (6, 6, 8), "job_begins": (4, 4, 9),
+    "insert_runs": (6, 6, 9),
+    "channel_turns": (3, 3, 10), "metadata_turns": (4, 4, 10), "repair_runs": (6, 6, 10), "clean_images": (6, 6, 11), "running_store": (3, 4, 11),
+    "md_queue": (1, 1, 12), "io_freeze": (3, 3, 12), "store_model": (4, 4, 12),
+    "md_chain": (2, 2, 13), "pools": (4, 4, 13), "shown_volumes": (6, 6, 13),
+    "md_page": (3, 3, 14), "inflate_delete": (6, 6, 14), "snapshots": (6, 6, 15), "blob_meta": (1, 1, 16),
+    "clean_stop": (4, 4, 16), "descriptors": (1, 1, 17), "super_block": (3, 3, 17), "page_runs": (4, 4, 17),
+    "gathered_file": (5, 5, 17), "run_work": (6, 6, 17),
+    "volume_model": (1, 1, 18), "page_fields": (3, 3, 18), "bit_array": (4, 4, 18),
+    "file_disk": (6, 6, 18),
+    "page_disk": (2, 6, 19), "out_of_memory": (1, 2, 20), "crc32c": (3, 6, 20),
 }
 BANDS = [
-    (0, 2, "the program"), (3, 5, "a run's actors,|scripts, plans,|a new store"), (6, 11, "the running|store"),
-    (12, 16, "metadata and|places"), (17, 17, "volumes, fields,|sets"), (18, 19, "the device and|the bottom"),
+    (0, 2, "the program"), (3, 6, "a run's actors,|scripts, plans,|a new store"), (7, 12, "the running|store"),
+    (13, 17, "metadata and|places"), (18, 18, "volumes, fields,|sets"), (19, 20, "the device and|the bottom"),
 ]
 STEPS = [
     "1  main opens the image that the words name, and hands over words, source, sink and device",
@@ -121,6 +122,7 @@ def crates():
     down(7, 6, "blob_tool", "streams")
     picture.arrow([(middle(6), bottom("streams")), (middle(6), top("blob_report"))])
     down(4, 4, "blob_tool", "channels")
+    picture.arrow([(middle(5), bottom("worker_threads")), (middle(5), top("channels"))])
     picture.arrow([(middle(4), bottom("channels")), (middle(4), top("md_thread"))])
     picture.arrow([(middle(3), bottom("md_thread")), (middle(3), top("lvol_store"))])
     picture.arrow([(middle(5), bottom("channels")), (middle(5), top("thin_write"))])
@@ -192,5 +194,53 @@ def commit():
     picture.save("commit.svg")
 
 
+# ---- a run by threads
+
+WORKERS = [(0, "worker of channel 0"), (1, "worker of channel 1"), (3, "worker of channel 15")]
+THREAD_STEPS = [
+    "1  a worker asks the gate before each of its steps; it has no lock then",
+    "2  a turn of its channel: the lock is held for this one turn",
+    "3  a message of what the turn has posted is pushed; the lock is free",
+    "4  a turn of the metadata thread, with the one right to change metadata",
+    "5  where none is due it pops a message, which its next turn serves; the lock is free",
+    "At the end the workers are joined, the queue is closed, and the steps that are left are made one at a time.",
+]
+
+
+def threads():
+    picture = Picture(980, 336 + 24 * len(THREAD_STEPS))
+    for row, name in WORKERS:
+        picture.box(130, 30 + 66 * row, 210, 46)
+        picture.text(235, 58 + 66 * row, name, 13)
+    picture.text(235, 186, "...", 16, fill=PALE)
+    picture.box(20, 30, 74, 244, OPEN, PALE, "4 3")
+    picture.text(57, 157, "gate", 13)
+    picture.box(446, 30, 210, 112, OLD)
+    for k, line in enumerate(["the store", "behind its lock", "(LockedStore)"]):
+        picture.text(551, 68 + 22 * k, line, 13)
+    for k in range(8):
+        picture.box(446 + 27 * k, 222, 21, 46, NEW if k < 3 else "#ffffff")
+    picture.text(551, 290, "the queue: eight messages at most", 13)
+    picture.box(754, 96, 206, 92)
+    for k, line in enumerate(["metadata thread", "(the run's own)", "with the right"]):
+        picture.text(857, 126 + 22 * k, line, 13)
+    picture.arrow([(130, 53), (96, 53)])
+    picture.badge(113, 76, 1)
+    picture.arrow([(340, 53), (444, 53)])
+    picture.arrow([(340, 119), (380, 119), (380, 86), (444, 86)])
+    picture.arrow([(340, 240), (404, 240), (404, 119), (444, 119)])
+    picture.badge(422, 38, 2)
+    picture.arrow([(340, 256), (444, 256)])
+    picture.badge(392, 274, 3)
+    picture.arrow([(754, 112), (710, 112), (710, 86), (658, 86)])
+    picture.badge(684, 68, 4)
+    picture.arrow([(660, 245), (857, 245), (857, 190)])
+    picture.badge(760, 264, 5)
+    for n, step in enumerate(THREAD_STEPS):
+        picture.text(20, 336 + 24 * n, step, 13, "start")
+    picture.save("threads.svg")
+
+
 crates()
 commit()
+threads()
