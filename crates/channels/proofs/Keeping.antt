@@ -23,8 +23,7 @@ use Rattle.run_moves.specs.DriverSteps.{driven_at_turn, FillActsOn}
 use Rattle.md_thread.proofs.TurnsRepaired.{job_kind, serving_kind, SomeTurn}
 use Rattle.channels.specs.ChannelState.{ChannelState}
 use Rattle.channels.specs.Driving.{AreChannelsOf, IsChannelOf}
-use Rattle.md_thread.proofs.OneRow.{RowsStep, RowStep, stays}
-use Rattle.md_thread.proofs.RowSteps.{row_steps}
+use Rattle.turn_columns.proofs.RowSteps.{row_steps, RowStep, RowsStep, stays}
 
 -- ---- each turn is one of a kind
 

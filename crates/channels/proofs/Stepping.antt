@@ -36,7 +36,7 @@ use Rattle.channels.proofs.Acting.{held_acts, keeping_acts, posted_stage, sendin
 use Rattle.channels.specs.Driving.{driven_of}
 use Rattle.md_thread.specs.Holding.{MetadataState}
 use Rattle.channels.proofs.Keeping.{filled_still, laws_on, of_channels, rows_step, stands, still_own, turn_or_none}
-use Rattle.md_thread.proofs.OneRow.{RowStep}
+use Rattle.turn_columns.proofs.RowSteps.{RowStep}
 
 -- ---- the same store
 
@@ -61,8 +61,7 @@ module _ {D : Type 0} (d : Ghosts D) (laws : DriverLaws) (plain : PlainRowLaws) 
   in_run = (laws_on d laws w.plant).step d.tells actor (driven d w) (driven d v) kept.placed.some_pages
       (of_channels d w.plant kept is.seventeen) kept.facts
       later_facts
-      (plain.run d.tells kept.run.0 (state_of d w.plant.opening) (state_of d w.plant.at) kept.run.1
-      (plain.opens (state_of d w.plant.opening) kept.began))
+      (plain d.tells kept.run.0 (state_of d w.plant.opening) (state_of d w.plant.at) kept.began kept.run.1)
       (stands d state w.plant kept) is.works is.run step
 
   -- it is one of the run

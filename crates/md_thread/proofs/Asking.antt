@@ -7,8 +7,8 @@ use Rattle.store_model.specs.Rows.{IsForMetadata, Posted, Row}
 use Rattle.running_store.specs.Requests.{IsPostedBy}
 use Rattle.store_core.specs.StoreInvariant.{StoreInvariant}
 use Rattle.running_store.specs.StoreView.{rows_of, state_of, WithOpening}
-use Rattle.md_thread.proofs.OneRow.{AsksUnclaimed, HasMetadata, IsAsked, IsAskedAt}
-use Rattle.md_thread.proofs.RowSteps.{asked_along}
+use Rattle.turn_columns.proofs.RowSteps.{AsksUnclaimed, HasMetadata, IsAsked, IsAskedAt}
+use Rattle.md_thread.proofs.RowsAlong.{asked_along}
 
 -- a list begins with one command
 pub same_first : (c k : Command) (cs ks : List Command) → c ∷ cs ≡ k ∷ ks → c ≡ k

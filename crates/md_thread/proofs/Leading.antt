@@ -1,5 +1,5 @@
 -- Turns one after another.
-use Rattle.std.proofs.Common.{◌≡◌, Bool, List, [], ◌∷◌, ◌++◌, refl, subst}
+use Rattle.std.proofs.Common.{Bool, List, [], ◌∷◌, ◌++◌, refl, subst}
 use Rattle.store_model.specs.Cases.{Kind, Run}
 use Rattle.store_model.specs.StoreState.{StoreState}
 use Rattle.md_thread.specs.Leading.{Leads, stays, turns, TurnsOnceOrStays}

@@ -18,6 +18,5 @@ mod SomeTurns
 mod FillMade
 mod FillStage
 mod Dropped
-pub mod OneRow
-pub mod RowSteps
+pub mod RowsAlong
 mod Asking

@@ -10,7 +10,6 @@ use Rattle.volume_model.specs.declared.command.Command.{Command}
 use Rattle.volume_model.specs.declared.reply.Msg.{Msg}
 use Rattle.store_model.specs.Filling.{FillStands}
 use Rattle.store_model.specs.RunInvariant.{RunInvariant}
-use Rattle.store_model.specs.StoreState.{StoreState}
 use Rattle.run_work.specs.Following.{ActorInRun, ChannelActs, MetadataActs}
 use Rattle.run_work.specs.RunFacts.{is_filled_for, is_held, is_waiting, IsOneOf, IsOnTheWay, RunFacts}
 use Rattle.run_work.specs.RunLaws.{DueLaws, FactLaws}

@@ -15,8 +15,6 @@ pub mod CommitTurns
 pub mod ReplacingMore
 pub mod Replacing
 pub mod PlainRows
-pub mod PlainLogs
-pub mod PlainTurns
 pub mod CanMove
 pub mod ChannelSteps
 pub mod MetadataSteps

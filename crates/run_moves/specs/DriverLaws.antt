@@ -4,7 +4,7 @@ use Rattle.super_block.specs.Numbers.{cluster_pages_of}
 use Rattle.super_block.specs.declared.page.Super.{Super}
 use Rattle.volume_model.specs.Volumes.{Volumes}
 use Rattle.volume_model.specs.declared.command.Command.{Command}
-use Rattle.store_model.specs.Cases.{Kind, Run, Turn}
+use Rattle.store_model.specs.Cases.{Kind, Run}
 use Rattle.store_model.specs.Filling.{FillStands}
 use Rattle.store_model.specs.RunInvariant.{RunInvariant}
 use Rattle.store_model.specs.StoreState.{Opens, StoreState}
@@ -18,11 +18,9 @@ use Rattle.run_moves.specs.PlainRows.{HasPlainRows}
 use Rattle.run_moves.specs.Projection.{RunMessages, run_state_of}
 use Rattle.run_moves.specs.Sizes.{sizes_of}
 
-pub record PlainRowLaws : Type 0 where
-  -- whatever turns were made of a store, from its opening on, rows with a claim and those of inserts have a write first
-  pub opens : (p : StoreState) → Opens p → HasPlainRows p
-  pub turn : (told : Bool) (kind : Kind) (p q : StoreState) → Turn told p kind q → HasPlainRows p → HasPlainRows q
-  pub run : (told : Bool) (kinds : List Kind) (p q : StoreState) → Run told p kinds q → HasPlainRows p → HasPlainRows q
+-- whatever turns were made of a store, from its opening on, rows with a claim and those of inserts have a write first
+abbrev pub PlainRowLaws : Type 0
+PlainRowLaws = (told : Bool) (kinds : List Kind) (p q : StoreState) → Opens p → Run told p kinds q → HasPlainRows q
 
 -- the rows of the channels alone have commands
 abbrev pub IsOfChannels : (ℕ → List Command) → Type 0

@@ -1,16 +1,10 @@
 -- The turns of a channel, and those of the fill's row, leave the running job as it is.
-use Rattle.std.proofs.Common.{◌≡◌, ◌≢◌, ◌⊎◌, ℕ, inl, inr, Bool, Option, None, Some, ap, refl, subst, sym}
+use Rattle.std.proofs.Common.{◌≡◌, ◌≢◌, ◌⊎◌, ℕ, inl, inr, Option, None, Some, ap, refl, subst, sym}
 use Rattle.std.specs.Prelude.{IsSome}
 use Rattle.page_disk.specs.declared.disk.PageDisk.{Ghosts}
 use Rattle.volume_model.specs.declared.reply.Msg.{Msg}
-use Rattle.volume_model.specs.declared.reply.Reply.{Reply}
-use Rattle.store_model.specs.Cases.{Kind, Turn}
+use Rattle.store_model.specs.Cases.{Kind}
 use Rattle.store_model.specs.Cases as kind
-use Rattle.store_model.specs.Claiming.{logs_filled, logs_own, LogsWork}
-use Rattle.store_model.specs.Device.{Device}
-use Rattle.store_model.specs.Rows.{Idle, Stage}
-use Rattle.store_model.specs.StoreState.{StoreState}
-use Rattle.store_model.specs.Turning.{stopped_now}
 use Rattle.channel_turns.specs.declared.claiming.ClaimTurn.{ClaimTurn}
 use Rattle.channel_turns.specs.declared.claiming.ClaimTurn.TheVariants as claim
 use Rattle.channel_turns.specs.declared.page_writing.WriteTurn.{WriteTurn}
@@ -26,96 +20,49 @@ use Rattle.running_store.specs.TurnMade.{TurnMade, TurnsAs}
 use Rattle.channel_turns.specs.ClaimTurns.{IsOfClaim, IsOfCopy, IsOfSend}
 use Rattle.channel_turns.specs.FillTurns.{ClaimsFillOrNot}
 use Rattle.running_store.specs.StoreView.{state_of, StoreView}
+use Rattle.turn_columns.specs.Columns.{leaves}
+use Rattle.turn_columns.specs.KindColumns.{job_column}
+use Rattle.turn_columns.proofs.JobLeft.{job_stays}
 
 -- the turns of a channel, and of the fill's row
 abbrev pub LeavesJob : Kind → Type 0
-LeavesJob kind.halts = Unit {0}
-LeavesJob kind.flushes = Unit {0}
-LeavesJob kind.flush_fails = Unit {0}
-LeavesJob kind.reads = Unit {0}
-LeavesJob kind.refuses_write = Unit {0}
-LeavesJob kind.writes_page = Unit {0}
-LeavesJob kind.fails_to_write = Unit {0}
-LeavesJob kind.finds_empty = Unit {0}
-LeavesJob kind.finds_filled = Unit {0}
-LeavesJob kind.claims = Unit {0}
-LeavesJob kind.refuses_claim = Unit {0}
-LeavesJob kind.copies = Unit {0}
-LeavesJob kind.loses_copy = Unit {0}
-LeavesJob kind.copy_not_read = Unit {0}
-LeavesJob kind.copy_fails = Unit {0}
-LeavesJob kind.sends = Unit {0}
-LeavesJob kind.settles = Unit {0}
-LeavesJob kind.claims_fill = Unit {0}
-LeavesJob kind.lacks_for_fill = Unit {0}
-LeavesJob kind.halts_fill = Unit {0}
-LeavesJob kind.ends_fill = Unit {0}
-LeavesJob _ = ⊥
+LeavesJob k = job_column k ≡ leaves
 
 of_flush : (k : Kind) → IsOfFlush k → LeavesJob k
-of_flush kind.halts is = tt
-of_flush kind.flushes is = tt
-of_flush kind.flush_fails is = tt
+of_flush kind.halts is = refl
+of_flush kind.flushes is = refl
+of_flush kind.flush_fails is = refl
 of_flush _ is = absurd is
 
 of_read : (k : Kind) → IsOfRead k → LeavesJob k
-of_read kind.halts is = tt
-of_read kind.reads is = tt
+of_read kind.halts is = refl
+of_read kind.reads is = refl
 of_read _ is = absurd is
 
 of_write : (k : Kind) → IsOfWrite k → LeavesJob k
-of_write kind.halts is = tt
-of_write kind.refuses_write is = tt
-of_write kind.writes_page is = tt
-of_write kind.fails_to_write is = tt
+of_write kind.halts is = refl
+of_write kind.refuses_write is = refl
+of_write kind.writes_page is = refl
+of_write kind.fails_to_write is = refl
 of_write _ is = absurd is
 
 of_claim : (k : Kind) → IsOfClaim k → LeavesJob k
-of_claim kind.halts is = tt
-of_claim kind.refuses_claim is = tt
+of_claim kind.halts is = refl
+of_claim kind.refuses_claim is = refl
 of_claim _ is = absurd is
 
 of_copy : (k : Kind) → IsOfCopy k → LeavesJob k
-of_copy kind.halts is = tt
-of_copy kind.halts_fill is = tt
-of_copy kind.copy_not_read is = tt
-of_copy kind.copy_fails is = tt
+of_copy kind.halts is = refl
+of_copy kind.halts_fill is = refl
+of_copy kind.copy_not_read is = refl
+of_copy kind.copy_fails is = refl
 of_copy _ is = absurd is
 
 of_send : (k : Kind) → IsOfSend k → LeavesJob k
-of_send kind.halts is = tt
-of_send kind.halts_fill is = tt
-of_send kind.copy_fails is = tt
+of_send kind.halts is = refl
+of_send kind.halts_fill is = refl
+of_send kind.copy_fails is = refl
 of_send _ is = absurd is
-
-job_logged : (p : StoreState) (row : ℕ) (stage : Stage) (reply : Reply) (device : Device) (q : StoreState)
-    → LogsWork p row stage reply device q → q.job ≡ p.job
-job_logged p row stage reply device q (logs_own x) = ap (λ (s : StoreState). s.job) x.next
-job_logged p row stage reply device q (logs_filled x) = ap (λ (s : StoreState). s.job) x.next
-
-job_stays : (told : Bool) (p q : StoreState) (k : Kind) → LeavesJob k → Turn told p k q → q.job ≡ p.job
-job_stays told p q kind.halts is t = ap (λ (s : StoreState). s.job) t.next
-job_stays told p q kind.flushes is t = ap (λ (s : StoreState). s.job) t.next
-job_stays told p q kind.flush_fails is t = ap (λ (s : StoreState). s.job) t.next
-job_stays told p q kind.reads is t = ap (λ (s : StoreState). s.job) t.next
-job_stays told p q kind.refuses_write is t = ap (λ (s : StoreState). s.job) t.next
-job_stays told p q kind.writes_page is t = ap (λ (s : StoreState). s.job) t.next
-job_stays told p q kind.fails_to_write is t = ap (λ (s : StoreState). s.job) t.next
-job_stays told p q kind.finds_empty is t = ap (λ (s : StoreState). s.job) t.next
-job_stays told p q kind.finds_filled is t = ap (λ (s : StoreState). s.job) t.next
-job_stays told p q kind.claims is t = ap (λ (s : StoreState). s.job) t.next
-job_stays told p q kind.refuses_claim is t = ap (λ (s : StoreState). s.job) t.next
-job_stays told p q kind.copies is t = ap (λ (s : StoreState). s.job) t.next
-job_stays told p q kind.loses_copy is t = ap (λ (s : StoreState). s.job) t.next
-job_stays told p q kind.copy_not_read is t = job_logged p t.copying.row Idle _ _ q t.logs
-job_stays told p q kind.copy_fails is t = job_logged (stopped_now p) t.copying.row Idle _ _ q t.logs
-job_stays told p q kind.sends is t = ap (λ (s : StoreState). s.job) t.next
-job_stays told p q kind.settles is t = ap (λ (s : StoreState). s.job) t.next
-job_stays told p q kind.claims_fill is t = ap (λ (s : StoreState). s.job) t.next
-job_stays told p q kind.lacks_for_fill is t = ap (λ (s : StoreState). s.job) t.next
-job_stays told p q kind.halts_fill is t = ap (λ (s : StoreState). s.job) t.next
-job_stays told p q kind.ends_fill is t = ap (λ (s : StoreState). s.job) t.next
-job_stays told p q _ is t = absurd is
 
 module _ {D : Type 0} (d : Ghosts D) (p q : StoreView D) where
   stays : (which : Kind → Type 0) → ((k : Kind) → which k → LeavesJob k) → TurnsAs d which p q → q.job ≡ p.job
@@ -141,7 +88,7 @@ module _ {D : Type 0} (d : Ghosts D) (p q : StoreView D) where
       → (turn ≡ write.Empty → TurnMade d p q kind.finds_empty) → (turn ≡ write.Logged → TurnsAs d IsOfWrite p q)
       → (q ≡ p) ⊎ TurnsAs d LeavesJob p q
   by_write write.Frozen same empty logged = inl (same refl)
-  by_write write.Empty same empty logged = inr (record { kind = kind.finds_empty; is = tt; made = empty refl })
+  by_write write.Empty same empty logged = inr (record { kind = kind.finds_empty; is = refl; made = empty refl })
   by_write write.Logged same empty logged = inr (wider IsOfWrite of_write (logged refl))
 
   pub by_claim : (turn : ClaimTurn) → (turn ≡ claim.Frozen → q ≡ p)
@@ -150,22 +97,22 @@ module _ {D : Type 0} (d : Ghosts D) (p q : StoreView D) where
       → (q ≡ p) ⊎ TurnsAs d LeavesJob p q
   by_claim claim.Frozen same filled claimed logged = inl (same refl)
   by_claim claim.Filled same filled claimed logged =
-      inr (record { kind = kind.finds_filled; is = tt; made = filled refl })
+      inr (record { kind = kind.finds_filled; is = refl; made = filled refl })
   by_claim claim.Claimed same filled claimed logged =
-      inr (record { kind = kind.claims; is = tt; made = claimed refl })
+      inr (record { kind = kind.claims; is = refl; made = claimed refl })
   by_claim claim.Logged same filled claimed logged = inr (wider IsOfClaim of_claim (logged refl))
 
   pub by_copy : (turn : CopyTurn) → (turn ≡ copy.Lost → TurnMade d p q kind.loses_copy)
       → ((left : ℕ) → turn ≡ copy.Copied left → TurnMade d p q kind.copies)
       → (turn ≡ copy.Logged → TurnsAs d IsOfCopy p q) → (q ≡ p) ⊎ TurnsAs d LeavesJob p q
-  by_copy copy.Lost lost copied logged = inr (record { kind = kind.loses_copy; is = tt; made = lost refl })
+  by_copy copy.Lost lost copied logged = inr (record { kind = kind.loses_copy; is = refl; made = lost refl })
   by_copy (copy.Copied left) lost copied logged =
-      inr (record { kind = kind.copies; is = tt; made = copied left refl })
+      inr (record { kind = kind.copies; is = refl; made = copied left refl })
   by_copy copy.Logged lost copied logged = inr (wider IsOfCopy of_copy (logged refl))
 
   pub by_send : (turn : SendTurn) → ((msg : Msg) → turn ≡ send.Post msg → TurnMade d p q kind.sends)
       → (turn ≡ send.Logged → TurnsAs d IsOfSend p q) → (q ≡ p) ⊎ TurnsAs d LeavesJob p q
-  by_send (send.Post msg) sent logged = inr (record { kind = kind.sends; is = tt; made = sent msg refl })
+  by_send (send.Post msg) sent logged = inr (record { kind = kind.sends; is = refl; made = sent msg refl })
   by_send send.Logged sent logged = inr (wider IsOfSend of_send (logged refl))
 
   -- a claim on the fill's row, by whether the store is stopped
@@ -175,15 +122,15 @@ module _ {D : Type 0} (d : Ghosts D) (p q : StoreView D) where
   by_fill turn runs stops = by p.stopped refl
     where
       made : (t : ClaimTurn) → ClaimsFillOrNot d p q t → (q ≡ p) ⊎ TurnsAs d LeavesJob p q
-      made claim.Claimed x = inr (record { kind = kind.claims_fill; is = tt; made = x })
-      made claim.Logged x = inr (record { kind = kind.lacks_for_fill; is = tt; made = x })
+      made claim.Claimed x = inr (record { kind = kind.claims_fill; is = refl; made = x })
+      made claim.Logged x = inr (record { kind = kind.lacks_for_fill; is = refl; made = x })
       made _ x = absurd x
 
       by : (o : Option ℕ) → p.stopped ≡ o → (q ≡ p) ⊎ TurnsAs d LeavesJob p q
       by None is = made turn (runs is)
       by (Some at) is = inr (record {
         kind = kind.halts_fill;
-        is = tt;
+        is = refl;
         made = (stops (subst IsSome (sym is) refl)).1;
       })
 
@@ -191,8 +138,8 @@ module _ {D : Type 0} (d : Ghosts D) (p q : StoreView D) where
       → (turn ≢ settle.Waiting → TurnMade d p q kind.settles) → (q ≡ p) ⊎ TurnsAs d LeavesJob p q
   by_settle settle.Waiting same settles = inl (same refl)
   by_settle settle.Won same settles =
-      inr (record { kind = kind.settles; is = tt; made = settles (λ e. cc e) })
+      inr (record { kind = kind.settles; is = refl; made = settles (λ e. cc e) })
   by_settle settle.Lost same settles =
-      inr (record { kind = kind.settles; is = tt; made = settles (λ e. cc e) })
+      inr (record { kind = kind.settles; is = refl; made = settles (λ e. cc e) })
   by_settle settle.Logged same settles =
-      inr (record { kind = kind.settles; is = tt; made = settles (λ e. cc e) })
+      inr (record { kind = kind.settles; is = refl; made = settles (λ e. cc e) })

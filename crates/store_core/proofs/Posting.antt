@@ -1,6 +1,6 @@
 -- What is known of a channel from what its row waits for.
 use Rattle.std.proofs.Common.{◌⊎◌, ◌≡◌, ℕ, ◌<◌, List, [], ◌∷◌, length, Option, Some, None, refl, sym, ap, subst}
-use Rattle.std.proofs.Common.{inl, inr, arith}
+use Rattle.std.proofs.Common.{inl, inr}
 use Rattle.std.specs.Prelude.{IsSome}
 use Rattle.page_disk.specs.declared.disk.PageDisk.{Ghosts}
 use Rattle.volume_model.specs.declared.command.Command.{Command}

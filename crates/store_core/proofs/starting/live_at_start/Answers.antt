@@ -1,4 +1,4 @@
-use Rattle.std.proofs.Common.{◌+◌, None, inl, inr, subst, sym, ap, ◌∙◌, arith}
+use Rattle.std.proofs.Common.{◌+◌, subst, sym, ap, ◌∙◌, arith}
 use Rattle.std.specs.Prelude.{option_copied}
 use Rattle.std.specs.FinMap as map
 use Rattle.blob_meta.proofs.HeadsThere.{up_to_end, up_to_next}

@@ -1,8 +1,8 @@
-use Rattle.std.proofs.Common.{◌∙◌, ap, inr}
+use Rattle.std.proofs.Common.{◌∙◌, ap}
 use Rattle.store_model.specs.Cases as kind
+use Rattle.store_model.specs.StoreState.{StoreState}
 use Rattle.running_store.specs.Running.{view_of, with_opening}
 use Rattle.running_store.specs.StoreView.{WithOpening}
-use Rattle.store_core.proofs.JobStays.{over_channel}
 use Rattle.store_core.proofs.plant.Plant.end_fill.Goals as goal
 
 pub invariant_of-self : goal.invariant_of-self
@@ -14,6 +14,4 @@ invariant_of-self g c = (
 
 pub returns-clause-job : goal.returns-clause-job
 returns-clause-job g c =
-    over_channel g.D.PageDisk (view_of c.self.inside.running) (view_of c.end_fill.new.running)
-    (inr (record { kind = kind.ends_fill; is = tt; made = c.end_fill.ensures.case }))
-    ∙ ap (λ (b : WithOpening g.row.D.Denot). b.at.job) c.self.view_is
+    ap (λ (s : StoreState). s.job) c.end_fill.ensures.case.0.next ∙ ap (λ (b : WithOpening g.row.D.Denot). b.at.job) c.self.view_is

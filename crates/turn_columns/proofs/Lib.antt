@@ -1,0 +1,9 @@
+pub mod OneRow
+pub mod Moving
+pub mod EachRow
+pub mod StagedRows
+pub mod RowSteps
+pub mod OwnWrites
+pub mod JobLeft
+pub mod OverRuns
+pub mod OwnRuns
