@@ -53,7 +53,8 @@ _blobtool() {
     case ${COMP_WORDS[1]} in
         format) options="--cluster --md-pages --lvol --uuid --new" ;;
         run) options="--schedule --threads" ;;
-        list | exercise) ;;
+        list) options="--json" ;;
+        exercise) ;;
         generate) images=0 ;;
         help)
             [ "$COMP_CWORD" != 2 ] || _blobtool_offer "format run list generate exercise"

@@ -10,7 +10,7 @@ use blob_meta::{Meta, parent_of};
 use out_of_memory::Memory;
 
 /// How many slots of a map hold a cluster.
-fn filled(slots: &[Option<u32>]) -> usize
+pub fn filled(slots: &[Option<u32>]) -> usize
     ensures count { result ≡ count_by is_some slots.now }
     ensures within { result ≤ length slots.now }
 {

@@ -32,6 +32,13 @@ fn until_nul(bytes: &[u8]) -> &[u8]
     }
 }
 
+/// The kind of a store, up to its first NUL.
+pub fn store_kind(sup: &Super) -> &[u8]
+    ensures { result.now ≡ before_first (λ b. b == 0) sup.now.bstype }
+{
+    until_nul(&sup.bstype)
+}
+
 /// How many places of a mask are clear.
 fn clear_count(mask: &Bits) -> u32
     ensures { result ≡ said.places_free mask.now }
@@ -40,7 +47,7 @@ fn clear_count(mask: &Bits) -> u32
 }
 
 /// How many clusters and metadata pages there are, and how many are clear.
-fn space_of(sup: &Super, masks: &Masks) -> Df
+pub fn space_of(sup: &Super, masks: &Masks) -> Df
     requires { IsFaultless sup.now }
     ensures { result ≡ said.space_of sup.now masks.now }
 {
@@ -97,7 +104,7 @@ fn push_store(sup: &Super, masks: &Masks, into: &mut Vec<u8>) -> Result<(), Memo
     ensures memory { OnErr result (into.new.items ≡ into.old.items) }
 {
     push_line(
-        until_nul(&sup.bstype),
+        store_kind(sup),
         sup.cluster_size,
         space_of(sup, masks),
         clean_digit(sup),
@@ -106,7 +113,7 @@ fn push_store(sup: &Super, masks: &Masks, into: &mut Vec<u8>) -> Result<(), Memo
 }
 
 /// The head of the super blob: `None` where the super block names none of the metadata region.
-fn super_head(sup: &Super) -> Option<u32>
+pub fn super_head(sup: &Super) -> Option<u32>
     ensures { result ≡ said.super_head sup.now }
 {
     match sup.super_blob.checked_sub(1 << 32) {

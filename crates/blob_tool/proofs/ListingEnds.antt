@@ -7,18 +7,20 @@ use Rattle.unclean_load.specs.Accepted.{IsImageFault}
 use Rattle.unclean_load.specs.Reading.{IsOnlyFault}
 use Rattle.unclean_load.specs.declared.fault.LoadFault.{LoadFault}
 use Rattle.unclean_load.specs.declared.fault.LoadFault.TheVariants as loading
+use Rattle.listing_text.specs.declared.format.ListFormat.{ListFormat}
 use Rattle.blob_tool.specs.ListOutcome.{ListEnded}
 use Rattle.blob_tool.specs.Untouched.{IsRefused, NothingWritten}
 use Rattle.blob_tool.specs.Statuses.{of_loading}
 use Rattle.blob_tool.specs.declared.status.Status.{Status}
 use Rattle.blob_tool.specs.declared.status.Status.TheVariants as status
 
-module _ {D : Type 0} (d : disk.Ghosts D) {K : Type 0} (k : sink.Ghosts K) (out out_now : K) (before back : D) where
+module _ (format : ListFormat) {D : Type 0} (d : disk.Ghosts D) {K : Type 0} (k : sink.Ghosts K) (out out_now : K)
+    (before back : D) where
   -- a store that wasn't loaded
   pub unlisted : (fault : LoadFault) → NothingWritten d before out out_now back
       → IsOnlyFault (d.read_faults before) (d.read_faults back) fault
       → (IsImageFault fault → d.read_faults back ≡ d.read_faults before → IsRefused d before back fault)
-      → ListEnded d before back k out out_now (of_loading fault)
+      → ListEnded d before back k out out_now format (of_loading fault)
   unlisted loading.ReadFault stays counted refused = (stays, refl, counted)
   unlisted loading.Memory stays counted refused = stays
   unlisted (loading.Super why) stays counted refused = (stays, refused tt counted)
@@ -32,7 +34,7 @@ module _ {D : Type 0} (d : disk.Ghosts D) {K : Type 0} (k : sink.Ghosts K) (out 
   unlisted (loading.NoRoom head has wants) stays counted refused = absurd counted
 
   -- whatever came of it, the device was only read
-  pub only_read : (st : Status) → ListEnded d before back k out out_now st → OnlyRead d before back
+  pub only_read : (st : Status) → ListEnded d before back k out out_now format st → OnlyRead d before back
   only_read status.Good ended =
       subst (OnlyRead d before) (sym ended.listed.device) ended.listed.found.same
   only_read status.OutWrite ended =

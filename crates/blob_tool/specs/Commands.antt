@@ -1,11 +1,12 @@
 -- What the words ask for. Whatever it is, they ask for nothing else.
-use Rattle.std.specs.Prelude.{◌≡◌, ◌<◌, List, Option, Some, None, true, false, IfSome, String}
+use Rattle.std.specs.Prelude.{◌≡◌, ◌<◌, List, Option, Some, None, IfSome, String}
 use Rattle.std.specs.declared.alloc.Global.{Global}
 use Rattle.blob_tool.specs.RunScripts.{CanBeRun, IsWithinLimits}
 use Rattle.blob_tool.specs.RunWords.{AsksToRun, AskForNoRun}
 use Rattle.blob_tool.specs.FormatWords.{format_in}
 use Rattle.blob_tool.specs.GenerateWords.{generate_in}
-use Rattle.blob_tool.specs.ListWords.{asks_to_list}
+use Rattle.listing_text.specs.declared.format.ListFormat.{ListFormat}
+use Rattle.blob_tool.specs.ListWords.{list_in}
 use Rattle.blob_tool.specs.declared.driving.Drive.{Drive}
 use Rattle.blob_tool.specs.declared.format_words.Format.{Format}
 use Rattle.blob_tool.specs.declared.generate_words.GeneratedScript.{GeneratedScript}
@@ -17,7 +18,7 @@ use Rattle.blob_tool.specs.declared.task.Task.TheVariants as task
 pub record AskForNothing (words : List (String Global)) : Type 0 where
   pub no_run : AskForNoRun words
   pub no_format : format_in words ≡ None
-  pub no_list : asks_to_list words ≡ false
+  pub no_list : list_in words ≡ None
   pub no_generate : generate_in words ≡ None
 
 module _ (words : List (String Global)) where
@@ -27,7 +28,7 @@ module _ (words : List (String Global)) where
     pub one : (other : RunScript) (by : Drive) → AsksToRun words other by → (other ≡ script) × (by ≡ drive)
     pub within : CanBeRun script
     pub no_format : format_in words ≡ None
-    pub no_list : asks_to_list words ≡ false
+    pub no_list : list_in words ≡ None
     pub no_generate : generate_in words ≡ None
 
   -- a new store like this, with at least one metadata page
@@ -35,12 +36,12 @@ module _ (words : List (String Global)) where
     pub asked : format_in words ≡ Some new
     pub some_page : IfSome new.md_pages (λ pages. 0 < pages)
     pub no_run : AskForNoRun words
-    pub no_list : asks_to_list words ≡ false
+    pub no_list : list_in words ≡ None
     pub no_generate : generate_in words ≡ None
 
-  -- a listing
-  pub record AskToList : Type 0 where
-    pub asked : asks_to_list words ≡ true
+  -- a listing in this format
+  pub record AskToList (format : ListFormat) : Type 0 where
+    pub asked : list_in words ≡ Some format
     pub no_run : AskForNoRun words
     pub no_format : format_in words ≡ None
     pub no_generate : generate_in words ≡ None
@@ -51,12 +52,12 @@ module _ (words : List (String Global)) where
     pub within : IsWithinLimits script
     pub no_run : AskForNoRun words
     pub no_format : format_in words ≡ None
-    pub no_list : asks_to_list words ≡ false
+    pub no_list : list_in words ≡ None
 
   -- what they ask for, if it is anything
   abbrev pub AskFor : Option Task → Type 0
   AskFor None = AskForNothing words
   AskFor (Some (task.Run script drive)) = AskToRun script drive
   AskFor (Some (task.Format new)) = AskToFormat new
-  AskFor (Some task.List) = AskToList
+  AskFor (Some (task.List format)) = AskToList format
   AskFor (Some (task.Generate script)) = AskToGenerate script

@@ -9,6 +9,7 @@ mod formatting;
 mod generate_words;
 mod generating;
 mod laws;
+mod list_words;
 mod listing;
 mod opening;
 mod preparing;

@@ -6,9 +6,11 @@ ghost use Rattle.blob_tool.specs.Commands.{AskFor};
 use crate::driving::Drive;
 use crate::format_words::{Format, of_options};
 use crate::generate_words::{GeneratedScript, generated_script};
+use crate::list_words::list_format;
 use crate::run_script::RunScript;
 use crate::run_words::drive_of;
 use command_words::{CommandWords, read_words};
+use listing_text::ListFormat;
 use out_of_memory::Memory;
 use script_lang::Schedule;
 use std::alloc::Global;
@@ -20,8 +22,8 @@ pub(crate) enum Task {
     Run(RunScript, Drive),
     /// A store like this is written.
     Format(Format),
-    /// The store and its volumes are printed.
-    List,
+    /// The store and its volumes are printed, in this format.
+    List(ListFormat),
     /// This script is printed.
     Generate(GeneratedScript),
 }
@@ -43,7 +45,7 @@ pub(crate) fn task_in(alloc: Global, words: &[String]) -> Result<Option<Task>, M
             None => Ok(None),
         },
         CommandWords::Format { options, .. } => Ok(of_options(&options).map(Task::Format)),
-        CommandWords::List { .. } => Ok(Some(Task::List)),
+        CommandWords::List { json, .. } => Ok(Some(Task::List(list_format(json)))),
         CommandWords::Generate { number, size } => {
             Ok(generated_script(number, size).map(Task::Generate))
         }

@@ -22,7 +22,8 @@ ghost use Rattle.blob_tool.specs.FormatWords.{format_in as format_said};
 ghost use Rattle.blob_tool.specs.FormatOutcome.{HasNoPlace, IsCutShort, IsPrintedStore, IsUnprintedStore};
 ghost use Rattle.blob_tool.specs.declared.format_words.Format.{Format as AFormat};
 ghost use Rattle.md_chain.specs.Reading.{OnlyRead};
-ghost use Rattle.blob_tool.specs.ListWords.{asks_to_list as list_said};
+ghost use Rattle.blob_tool.specs.ListWords.{list_in as list_said};
+ghost use Rattle.listing_text.specs.declared.format.ListFormat.{ListFormat as AListFormat};
 ghost use Rattle.blob_tool.specs.ListOutcome.{IsPrintedListing, IsUnlisted, IsUnprintedListing, IsUnreadable};
 ghost use Rattle.blob_tool.specs.GenerateWords.{generate_in as generate_said};
 ghost use Rattle.blob_tool.specs.GenerateOutcome.{IsPartOfScript, IsPrintedScript};
@@ -163,19 +164,20 @@ pub fn blobtool<S: Source, K: Sink, D: PageDisk + Send>(
 
     // What each status of `list` says, and that it has no other: the store was loaded and its text printed, or the
     // image isn't accepted, or the device, the sink or memory failed. Nothing is written to the device.
-    ensures listed { list_said words.now ≡ true → result.0 ≡ Good
-        → IsPrintedListing D.PageDisk disk result.1 K.Sink out.old out.new }
-    ensures list_out_write { list_said words.now ≡ true → result.0 ≡ OutWrite
-        → IsUnprintedListing D.PageDisk disk result.1 K.Sink out.old out.new }
-    ensures list_device { list_said words.now ≡ true → (at : ℕ) → result.0 ≡ Device at
-        → IsUnreadable D.PageDisk disk result.1 K.Sink out.old out.new at }
-    ensures list_image { list_said words.now ≡ true → (fault : LoadFault) → result.0 ≡ Image fault
-        → IsUnlisted D.PageDisk disk result.1 K.Sink out.old out.new fault }
-    ensures list_memory { list_said words.now ≡ true → result.0 ≡ Memory
+    ensures listed { (asked : AListFormat) → list_said words.now ≡ Some asked → result.0 ≡ Good
+        → IsPrintedListing D.PageDisk disk result.1 K.Sink out.old out.new asked }
+    ensures list_out_write { (asked : AListFormat) → list_said words.now ≡ Some asked → result.0 ≡ OutWrite
+        → IsUnprintedListing D.PageDisk disk result.1 K.Sink out.old out.new asked }
+    ensures list_device { (asked : AListFormat) → list_said words.now ≡ Some asked → (at : ℕ)
+        → result.0 ≡ Device at → IsUnreadable D.PageDisk disk result.1 K.Sink out.old out.new at }
+    ensures list_image { (asked : AListFormat) → list_said words.now ≡ Some asked → (fault : LoadFault)
+        → result.0 ≡ Image fault → IsUnlisted D.PageDisk disk result.1 K.Sink out.old out.new fault }
+    ensures list_memory { (asked : AListFormat) → list_said words.now ≡ Some asked → result.0 ≡ Memory
         → NothingWritten D.PageDisk disk out.old out.new result.1 }
-    ensures list_statuses { list_said words.now ≡ true → comes_without_script result.0 ≡ true }
-    ensures list_reads { list_said words.now ≡ true → OnlyRead D.PageDisk disk result.1 }
-    ensures list_script { list_said words.now ≡ true → script.new ≡ script.old }
+    ensures list_statuses { (asked : AListFormat) → list_said words.now ≡ Some asked
+        → comes_without_script result.0 ≡ true }
+    ensures list_reads { (asked : AListFormat) → list_said words.now ≡ Some asked → OnlyRead D.PageDisk disk result.1 }
+    ensures list_script { (asked : AListFormat) → list_said words.now ≡ Some asked → script.new ≡ script.old }
 
     // What each status of `generate` says, and that it has no other: the whole text was printed, or the sink failed, or
     // memory ran out. The device isn't touched.
@@ -193,7 +195,7 @@ pub fn blobtool<S: Source, K: Sink, D: PageDisk + Send>(
     match task_in(alloc, words) {
         Ok(Some(Task::Run(from, by))) => run_in_rounds(alloc, from, by, script, out, disk),
         Ok(Some(Task::Format(format))) => format_image(alloc, &format, out, disk),
-        Ok(Some(Task::List)) => list_image(alloc, out, disk),
+        Ok(Some(Task::List(format))) => list_image(alloc, format, out, disk),
         Ok(Some(Task::Generate(drawn))) => (generate(alloc, drawn, out), disk),
         Ok(None) => (Status::Usage, disk),
         Err(NoMemory) => (Status::Memory, disk),

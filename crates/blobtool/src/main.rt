@@ -166,7 +166,7 @@ fn start<'a, R: Threads + Wait + Sync>(
                 | CommandWords::Exercise { image, .. },
             ),
         ) => over_image(rt, threads, words, image, Access::Write),
-        Ok(Some(CommandWords::List { image })) => over_image(
+        Ok(Some(CommandWords::List { image, .. })) => over_image(
             rt,
             threads,
             words,

@@ -123,8 +123,12 @@ module _ (words : List Text) where
 
   list_taken : IsTaken words (leaf list_line)
   list_taken none =
-      is_some-map list (first_of (codes "IMAGE") (rows_after (leaf list_line).rules [] words))
-      ∙ image_given (leaf list_line) (takes_one refl refl, (asks_help refl, tt)) (λ r. refl) none
+      let rows = rows_after (leaf list_line).rules [] words in
+      is_some-map (λ image. list image (has_flag (codes "json") rows)) (first_of (codes "IMAGE") rows)
+      ∙ image_given (leaf list_line) (
+        takes_one refl refl,
+        (is_flag refl (codes "true") refl, (asks_help refl, tt)),
+      ) (λ r. refl) none
 
   generate_taken : IsTaken words (leaf generate_line)
   generate_taken none =

@@ -129,8 +129,13 @@ fn list_line<'a>(alloc: Global) -> Result<Command<'a>, AllocError>
 {
     Command::new(alloc, "list")
         .about("Prints a store and its volumes, and writes nothing")
-        .after_help("Example: blobtool list store.img")
-        .arg(placed(alloc, "IMAGE", "The file that has the store"))
+        .after_help("Examples:{n}  blobtool list store.img{n}  blobtool list --json store.img")
+        .arg(placed(alloc, "IMAGE", "The file that has the store"))?
+        .arg(flag(
+            alloc,
+            "json",
+            "Prints one line of JSON, an object, in place of a line for each volume",
+        ))
 }
 
 /// The command, with the two numbers that say which script is drawn behind its own arguments.

@@ -43,9 +43,10 @@ pub enum CommandWords<'a> {
         image: &'a str,
         options: FormatOptions<'a>,
     },
-    /// `list IMAGE`.
+    /// `list IMAGE`, and whether `--json` is there.
     List {
         image: &'a str,
+        json: bool,
     },
     /// `generate NUMBER SIZE`.
     Generate {
@@ -126,7 +127,10 @@ fn list_of<'a>(found: &ArgMatches<'a>) -> Option<CommandWords<'a>>
     ensures { option_map as_read result ≡ said.list_by (rows_of (found_of found.now)) }
 {
     let image = text_of(found, "IMAGE")?;
-    Some(CommandWords::List { image })
+    Some(CommandWords::List {
+        image,
+        json: has_flag(found, "json"),
+    })
 }
 
 /// A `generate` with what was found behind it.

@@ -27,6 +27,8 @@ mod formats;
 #[cfg(test)]
 mod generated_scripts;
 #[cfg(test)]
+mod json_listings;
+#[cfg(test)]
 mod listed;
 #[cfg(test)]
 mod listings;

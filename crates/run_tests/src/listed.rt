@@ -13,10 +13,28 @@ pub(crate) static LIST: Call<'static> = Call {
     failing_writes: &[],
 };
 
+/// The call that lists them in JSON.
+pub(crate) static JSON: Call<'static> = Call {
+    line: "list --json store.img",
+    script: b"no script",
+    failing_reads: &[],
+    failing_writes: &[],
+};
+
 /// The device of a store of which this is listed, and to which nothing is written for it; fails where it isn't so.
 pub(crate) fn expect_listed(alloc: Global, printed: &[u8], disk: MemDisk) -> Result<MemDisk, Fail> {
+    expect_printed(alloc, &LIST, printed, disk)
+}
+
+/// The same by a call of its own.
+pub(crate) fn expect_printed(
+    alloc: Global,
+    call: &Call,
+    printed: &[u8],
+    disk: MemDisk,
+) -> Result<MemDisk, Fail> {
     let clock = disk.clock();
-    let disk = expect_end(alloc, &LIST, ("Good", printed), disk)?;
+    let disk = expect_end(alloc, call, ("Good", printed), disk)?;
     if disk.clock() != clock {
         return Err(Fail::new("it wrote"));
     }

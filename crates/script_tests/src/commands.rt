@@ -5,7 +5,7 @@ use command_words::{read_words, refusal};
 use std::test::Fail;
 
 /// Words behind the program's name, and the command that they spell.
-const CASES: [(&str, &str); 18] = [
+const CASES: [(&str, &str); 19] = [
     (
         "run store.img",
         "Run { image: \"store.img\", schedule: None, threads: false }",
@@ -72,8 +72,15 @@ const CASES: [(&str, &str); 18] = [
         "Format { image: \"store.img\", \
             options: FormatOptions { cluster: None, md_pages: None, lvol: None, uuid: Some(\"x\") } }",
     ),
-    ("list store.img", "List { image: \"store.img\" }"),
-    ("list run", "List { image: \"run\" }"),
+    (
+        "list store.img",
+        "List { image: \"store.img\", json: false }",
+    ),
+    ("list run", "List { image: \"run\", json: false }"),
+    (
+        "list store.img --json",
+        "List { image: \"store.img\", json: true }",
+    ),
     ("generate 1 3", "Generate { number: \"1\", size: \"3\" }"),
     (
         "exercise store.img 1 3",
@@ -82,7 +89,7 @@ const CASES: [(&str, &str); 18] = [
 ];
 
 /// Words that spell no command.
-const NO_COMMANDS: [&str; 30] = [
+const NO_COMMANDS: [&str; 33] = [
     "",
     "help",
     "help run",
@@ -108,6 +115,9 @@ const NO_COMMANDS: [&str; 30] = [
     "--cluster 16384 format store.img",
     "list",
     "list store.img -x",
+    "list --json",
+    "list store.img --json --json",
+    "run store.img --json",
     "generate",
     "generate 1",
     "generate 1 -3",

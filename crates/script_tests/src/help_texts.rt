@@ -73,15 +73,18 @@ store already is refused.
 
 const LIST: &str = "Prints a store and its volumes, and writes nothing
 
-Usage: blobtool list <IMAGE>
+Usage: blobtool list [OPTIONS] <IMAGE>
 
 Arguments:
   <IMAGE>  The file that has the store
 
 Options:
+      --json  Prints one line of JSON, an object, in place of a line for each volume
   -h, --help  Print help
 
-Example: blobtool list store.img
+Examples:
+  blobtool list store.img
+  blobtool list --json store.img
 ";
 
 const GENERATE: &str =

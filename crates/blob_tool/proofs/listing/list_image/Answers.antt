@@ -1,6 +1,6 @@
 use Rattle.std.proofs.Common.{◌≡◌, ◌∙◌, ◌++◌, ℕ, List, ap, refl, rules, subst, sym}
 use Rattle.page_disk.specs.Disk.{Rose}
-use Rattle.blob_report.specs.StoreText.{store_text}
+use Rattle.listing_text.specs.Formats.{listing_text}
 use Rattle.streams.specs.Printing.{IsPartOf}
 use Rattle.blob_tool.specs.ListOutcome.{ListEnded}
 use Rattle.blob_tool.specs.declared.status.Status.{Status}
@@ -11,9 +11,9 @@ use Rattle.blob_tool.proofs.listing.list_image.Goals as goal
 pub returns-in-Err : goal.returns-in-Err
 returns-in-Err g c =
     let d = g.D.PageDisk in
-    subst (λ (st : Status). ListEnded d c.args.disk c.in-Err.disk g.K.Sink c.args.out.now c.args.out.now st)
+    subst (λ (st : Status). ListEnded d c.args.disk c.in-Err.disk g.K.Sink c.args.out.now c.args.out.now c.args.format st)
     (sym c.from.ensures)
-    (unlisted d g.K.Sink c.args.out.now c.args.out.now c.args.disk c.in-Err.disk c.in-Err.fault
+    (unlisted c.args.format d g.K.Sink c.args.out.now c.args.out.now c.args.disk c.in-Err.disk c.in-Err.fault
     (record { quiet = refl; device = c.in-Err.ensures.same }) c.in-Err.ensures.counted
     (λ of_image no_fault. record {
       of_image = of_image;
@@ -24,7 +24,7 @@ returns-in-Err g c =
 
 pub returns-in-Ok-offer : goal.returns-in-Ok-offer
 returns-in-Ok-offer g c =
-    let e : c.deref.result.now ≡ store_text c.in-Ok.loaded = c.deref.ensures.value ∙ c.in-Ok-text.ensures in
+    let e : c.deref.result.now ≡ listing_text c.args.format c.in-Ok.loaded = c.deref.ensures.value ∙ c.in-Ok-text.ensures in
     record {
       listed = record {
         loaded = c.in-Ok.loaded;
@@ -39,7 +39,7 @@ returns-in-Ok-offer g c =
 
 pub returns : goal.returns
 returns g c =
-    let e : c.deref.result.now ≡ store_text c.in-Ok.loaded = c.deref.ensures.value ∙ c.in-Ok-text.ensures in
+    let e : c.deref.result.now ≡ listing_text c.args.format c.in-Ok.loaded = c.deref.ensures.value ∙ c.in-Ok-text.ensures in
     let rose : Rose (g.K.Sink.faults c.args.out.now) (g.K.Sink.faults c.offer.new.sink) = search rules in
     record {
       listed = record {

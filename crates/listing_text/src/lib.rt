@@ -1,0 +1,8 @@
+//! What a loaded store lists of itself, in the formats that can be asked for.
+#![tactic(auto)]
+
+mod format;
+mod objects;
+
+pub use format::{ListFormat, render_listing};
+pub use objects::render_json;
