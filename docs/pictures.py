@@ -1,47 +1,12 @@
 #!/usr/bin/env python3
-"""Draws docs/crates.svg, docs/commit.svg and docs/threads.svg. Run it where a crate, a device call of the commit or a
-thread of a run has changed."""
+"""Draws crates.svg, commit.svg, threads.svg and speed.svg beside this file, or in the folder that is named. Run it where
+a crate, a device call of the commit, a thread of a run or the last run in BENCHMARK.md has changed; .ci/check_docs
+refuses a picture that isn't current."""
 import pathlib
+import sys
 
-HERE = pathlib.Path(__file__).parent
-INK, PALE, WAY, OLD, NEW, OPEN = "#1c1c1c", "#8a8a8a", "#b3261e", "#dfe7f3", "#f6d9a8", "#ececec"
-
-
-class Picture:
-    def __init__(self, width, height):
-        self.width, self.height, self.parts = width, height, []
-
-    def add(self, part):
-        self.parts.append(part)
-
-    def box(self, x, y, w, h, fill="#ffffff", stroke=INK, dash=None):
-        more = f' stroke-dasharray="{dash}"' if dash else ""
-        self.add(f'<rect x="{x}" y="{y}" width="{w}" height="{h}" rx="5" fill="{fill}" stroke="{stroke}"{more}/>')
-
-    def text(self, x, y, words, size=14, anchor="middle", fill=INK, bold=False):
-        weight = ' font-weight="bold"' if bold else ""
-        words = words.replace("&", "&amp;").replace("<", "&lt;")
-        at = f'x="{x}" y="{y}" font-size="{size}" text-anchor="{anchor}"'
-        self.add(f'<text {at} fill="{fill}"{weight}>{words}</text>')
-
-    def arrow(self, points, colour=WAY):
-        path = " ".join(f"{x},{y}" for x, y in points)
-        line = f'fill="none" stroke="{colour}" stroke-width="2.5" marker-end="url(#tip)"'
-        self.add(f'<polyline points="{path}" {line}/>')
-
-    def badge(self, x, y, number):
-        self.add(f'<circle cx="{x}" cy="{y}" r="10" fill="{WAY}"/>')
-        self.text(x, y + 5, str(number), 13, fill="#ffffff", bold=True)
-
-    def save(self, name):
-        head = (
-            f'<svg xmlns="http://www.w3.org/2000/svg" viewBox="0 0 {self.width} {self.height}" '
-            f'width="{self.width}" height="{self.height}" font-family="DejaVu Sans Mono, monospace">\n'
-            f'<defs><marker id="tip" viewBox="0 0 10 10" refX="9" refY="5" markerWidth="7" markerHeight="7" '
-            f'orient="auto"><path d="M0,0 L10,5 L0,10 z" fill="{WAY}"/></marker></defs>\n'
-            f'<rect width="{self.width}" height="{self.height}" fill="#ffffff"/>\n'
-        )
-        (HERE / name).write_text(head + "\n".join(self.parts) + "\n</svg>\n")
+from drawing import NEW, OLD, OPEN, PALE, WAY, Picture
+from speed import speed
 
 
 # ---- the crates in their layers
@@ -49,25 +14,28 @@ class Picture:
 COLUMNS_WIDE, COLUMN, ROW, LEFT, TOP = 6, 150, 70, 170, 20
 # name: first column, last column, row; a crate stands on crates of lower rows alone
 CRATES = {
-    "blobtool": (1, 6, 0), "host_io": (4, 6, 1), "blob_tool": (1, 6, 2), "command_words": (3, 3, 4),
+    "blobtool": (1, 6, 0), "host_io": (4, 6, 1), "blob_tool": (1, 6, 2), "command_words": (1, 1, 7),
     "worker_threads": (5, 5, 3), "channels": (4, 5, 4),
     "script_lang": (1, 1, 5), "md_thread": (3, 4, 5), "streams": (6, 6, 5),
     "lvol_store": (3, 3, 6), "thin_write": (5, 5, 6), "store_format": (1, 1, 6),
     "unclean_load": (2, 2, 7), "data_path": (5, 5, 7), "blob_report": (6, 6, 7),
-    "store_core": (4, 4, 8), "run_moves": (6, 6, 8), "job_begins": (4, 4, 9),
-    "insert_runs": (6, 6, 9),
-    "channel_turns": (3, 3, 10), "metadata_turns": (4, 4, 10), "repair_runs": (6, 6, 10), "clean_images": (6, 6, 11), "running_store": (3, 4, 11),
+    "store_core": (4, 4, 8), "run_moves": (6, 6, 8),
+    "metadata_turns": (3, 3, 9), "job_begins": (4, 4, 9), "insert_runs": (6, 6, 9),
+    "channel_turns": (3, 3, 10), "job_views": (4, 4, 10), "repair_runs": (6, 6, 10),
+    "running_store": (3, 4, 11), "clean_images": (6, 6, 11),
+    "nbd_reader": (1, 1, 1), "nbd_words": (1, 1, 14),
+    "turn_columns": (1, 1, 11), "listing_laws": (3, 3, 3), "listing_text": (3, 3, 4),
     "md_queue": (1, 1, 12), "io_freeze": (3, 3, 12), "store_model": (4, 4, 12),
     "md_chain": (2, 2, 13), "pools": (4, 4, 13), "shown_volumes": (6, 6, 13),
-    "md_page": (3, 3, 14), "inflate_delete": (6, 6, 14), "snapshots": (6, 6, 15), "blob_meta": (1, 1, 16),
-    "clean_stop": (4, 4, 16), "gathered_file": (6, 6, 16), "descriptors": (1, 1, 17), "super_block": (3, 3, 17), "page_runs": (4, 4, 17),
-    "run_work": (6, 6, 17),
+    "md_page": (3, 3, 14), "inflate_delete": (6, 6, 14), "snapshots": (6, 6, 15),
+    "blob_meta": (1, 1, 16), "clean_stop": (4, 4, 16), "gathered_file": (6, 6, 16),
+    "descriptors": (1, 1, 17), "super_block": (3, 3, 17), "page_runs": (4, 4, 17), "run_work": (6, 6, 17),
     "volume_model": (1, 1, 18), "page_fields": (3, 3, 18), "bit_array": (4, 4, 18),
     "file_disk": (6, 6, 18),
     "page_disk": (2, 6, 19), "out_of_memory": (1, 2, 20), "crc32c": (3, 6, 20),
 }
 BANDS = [
-    (0, 2, "the program"), (3, 6, "a run's actors,|scripts, plans,|a new store"), (7, 12, "the running|store"),
+    (0, 2, "the program"), (3, 7, "a run's actors,|scripts, texts,|plans, a load"), (8, 12, "the running|store"),
     (13, 17, "metadata and|places"), (18, 18, "volumes, fields,|sets"), (19, 20, "the device and|the bottom"),
 ]
 STEPS = [
@@ -91,7 +59,7 @@ def middle(column):
     return LEFT + (column - 1) * COLUMN + COLUMN // 2
 
 
-def crates():
+def crates(folder):
     rows = max(row for _, _, row in CRATES.values()) + 1
     picture = Picture(LEFT + COLUMNS_WIDE * COLUMN + 20, TOP + rows * ROW + 30 + 24 * len(STEPS))
     for n, (first, last, name) in enumerate(BANDS):
@@ -135,7 +103,7 @@ def crates():
     picture.badge(middle(5) + 22, y + h // 2 + 16, 6)
     for n, step in enumerate(STEPS):
         picture.text(20, TOP + rows * ROW + 30 + 24 * n, step, 14, "start")
-    picture.save("crates.svg")
+    picture.save(folder / "crates.svg")
 
 
 # ---- the commit of a job
@@ -144,7 +112,8 @@ WIDE, GAP = 224, 20
 COLUMNS = [
     ("before the turn", None, [("old", "old or planned"), ("old", "torn")], ["the old metadata"]),
     ("flush", 1, [("old", "planned")], ["the old metadata;", "the fresh pages last"]),
-    ("write of the head", 2, [("old", "planned"), ("new", "planned")], ["old: the old metadata", "new: the new metadata"]),
+    ("write of the head", 2, [("old", "planned"), ("new", "planned")],
+        ["old: the old metadata", "new: the new metadata"]),
     ("flush", 3, [("new", "planned")], ["the new metadata"]),
 ]
 SERVES = [
@@ -164,7 +133,7 @@ def card(picture, x, y, head, fresh):
         picture.text(x + 66 + (WIDE - 100) // 2, y + 24 + 28 * k, what, 13)
 
 
-def commit():
+def commit(folder):
     left = 120
     picture = Picture(left + 4 * (WIDE + GAP) + 10, 466)
     rows = [(44, "device call"), (150, "images that"), (168, "a crash may"), (186, "leave"), (296, "which say")]
@@ -185,13 +154,13 @@ def commit():
         if n < 3:
             picture.arrow([(x + WIDE + 2, 40), (x + WIDE + GAP - 2, 40)])
     notes = [
-        "Each column is what a crash may leave behind its call; the head is written whole, so it is never torn.",
-        "Where a call fails the store stops: behind call 1 the images are those from before, behind call 2 or 3",
+        "Each column is what a crash may leave after its call; the head is written whole, so it is never torn.",
+        "Where a call fails the store stops: after call 1 the images are those from before, after call 2 or 3",
         "the old and the new one. The entry is `fault` then, and the new image holds the change in progress.",
     ]
     for k, line in enumerate(notes):
         picture.text(12, 412 + 20 * k, line, 13, "start")
-    picture.save("commit.svg")
+    picture.save(folder / "commit.svg")
 
 
 # ---- a run by threads
@@ -207,7 +176,7 @@ THREAD_STEPS = [
 ]
 
 
-def threads():
+def threads(folder):
     picture = Picture(980, 336 + 24 * len(THREAD_STEPS))
     for row, name in WORKERS:
         picture.box(130, 30 + 66 * row, 210, 46)
@@ -238,9 +207,17 @@ def threads():
     picture.badge(760, 264, 5)
     for n, step in enumerate(THREAD_STEPS):
         picture.text(20, 336 + 24 * n, step, 13, "start")
-    picture.save("threads.svg")
+    picture.save(folder / "threads.svg")
 
 
-crates()
-commit()
-threads()
+def main():
+    folder = pathlib.Path(sys.argv[1] if len(sys.argv) > 1 else __file__)
+    folder = folder if folder.is_dir() else folder.parent
+    crates(folder)
+    commit(folder)
+    threads(folder)
+    speed(folder)
+
+
+if __name__ == "__main__":
+    main()
