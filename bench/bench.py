@@ -14,6 +14,7 @@ from pathlib import Path
 import checks
 import images
 import qcow2
+import record
 import rows
 import running
 from workloads import all_workloads
@@ -28,6 +29,7 @@ def read_options():
     parser.add_argument("--replay", type=Path, help="a call_replay that is built already")
     parser.add_argument("--runs", type=int, default=5, help="how many runs the median is of")
     parser.add_argument("--only", default="", help="only the rows whose names have this word")
+    parser.add_argument("--record", action="store_true", help="keep this run in docs/BENCHMARK.md, and draw it")
     parser.add_argument("--slow-sync", type=int, metavar="MICROSECONDS", help="what each sync takes more")
     return parser.parse_args()
 
@@ -93,20 +95,25 @@ def cells(row, measured_of):
     return found
 
 
-def print_table(table):
+def lines_of(table):
+    """The table's lines, its columns as wide as what stands in them."""
     heads = list(table[0])
     widths = {head: max(len(head), *(len(line[head]) for line in table)) for head in heads}
     texts = ("workload", "must show")
     sides = {head: str.ljust if head in texts else str.rjust for head in heads}
-    print("| " + " | ".join(sides[head](head, widths[head]) for head in heads) + " |")
-    print("|" + "|".join("-" * (widths[head] + 1) + ("-" if head in texts else ":") for head in heads) + "|")
-    for line in table:
-        print("| " + " | ".join(sides[head](line[head], widths[head]) for head in heads) + " |")
+    lines = ["| " + " | ".join(sides[head](head, widths[head]) for head in heads) + " |"]
+    lines.append("|" + "|".join("-" * (widths[head] + 1) + ("-" if head in texts else ":") for head in heads) + "|")
+    return lines + ["| " + " | ".join(sides[head](line[head], widths[head]) for head in heads) + " |" for line in table]
+
+
+def machine(bench):
+    """What a run is made on."""
+    return f"{os.cpu_count()} processors {processor()}, Linux {os.uname().release}, {images.file_system(bench.folder)}"
 
 
 def print_machine(bench, runs):
     one, _, _ = os.getloadavg()
-    print(f"{os.cpu_count()} processors {processor()}, Linux {os.uname().release}, {images.file_system(bench.folder)}")
+    print(machine(bench))
     print(f"medians of {runs}; {one:.1f} programs were running when it began")
     if not bench.strace:
         print("strace is missing, or may trace nothing here: no calls, no replay, and no check of the calls")
@@ -149,8 +156,11 @@ def main():
         print_machine(bench, options.runs)
         measured = measured_rows(bench, options)
         measured_of = {row.workload.name: row.measured for row in measured}
-        print_table([cells(row, measured_of) for row in measured])
-        print()
+        table = [cells(row, measured_of) for row in measured]
+        print("\n".join(lines_of(table)), end="\n\n")
+        if options.record:
+            kept = [{head: cell for head, cell in line.items() if head != "must show"} for line in table]
+            record.keep(f"{machine(bench)}, medians of {options.runs}", lines_of(kept))
         faults = faults_of_calls(bench, measured) if bench.strace else []
     for fault in faults:
         print(f"bench: {fault}", file=sys.stderr)

@@ -205,6 +205,19 @@ def large_maps():
     )
 
 
+def thin_writes(power):
+    """Pages that are written to empty slots, drawn, of a volume of so many slots, each of one page."""
+    slots, count = 1 << power, 500
+    places = random.Random(4).sample(range(slots), count)
+    lines = [f"0 write v {place} 1 {number}\n" for number, place in enumerate(places, 1)]
+    return Workload(
+        f"{count} pages written to empty slots of 2^{power}",
+        store(64 * MIB, 4 * KIB, 512, f"0 create v {slots} thin\n"),
+        script="".join(lines) + "0 flush\n",
+        answers=all_done(count + 1),
+    )
+
+
 def summed_pages():
     """Pages of a thick volume that are no word repeated, so that each is told by its checksum."""
     size, at_once = 256 * MIB, 256
@@ -251,4 +264,5 @@ def all_workloads():
         loaded(False),
         large_maps(),
         summed_pages(),
+        *(thin_writes(power) for power in (10, 14, 18, 20)),
     ]
