@@ -1,7 +1,7 @@
 #!/usr/bin/env python3
-"""Draws crates.svg, commit.svg, threads.svg and speed.svg beside this file, or in the folder that is named. Run it where
-a crate, a device call of the commit, a thread of a run or the last run in BENCHMARK.md has changed; .ci/check_docs
-refuses a picture that isn't current."""
+"""Draws crates.svg, commit.svg, threads.svg and speed.svg beside this file, or in the folder that is named. Run it
+after a change of a crate, of a device call of the commit, of a thread of a run or of the last run in BENCHMARK.md;
+.ci/check_docs refuses a picture that isn't current."""
 import pathlib
 import sys
 

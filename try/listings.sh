@@ -1,6 +1,6 @@
 #!/usr/bin/env bash
-# Makes stores by the program, lists each in lines and in JSON, has Python read the JSON (and jq, where it is there), and
-# compares each of its values with the lines. Prints what differs, and ends with 1 if something does.
+# Makes stores by the program, lists each in lines and in JSON, has Python read the JSON, and jq where it is there, and
+# compares each value with the lines. Prints what differs, and ends with 1 if something does.
 # Wants bash, Python 3 and the Rattle kit; builds the program unless BLOBTOOL names one.
 set -u
 cd "$(dirname "$0")/.." || exit 1

@@ -3,8 +3,8 @@
 # call tells it, by status 7 or by `no memory` in its log, or that it asks again and ends as if nothing was refused; and
 # that the image then shows what it did behind a first part of the script, or behind the script without the command that
 # was answered so. Ends with a status other than 0 where one differs. Words are options of `run`. The program is
-# crates/blobtool/out/blobtool, which `rt run` proves and builds, or what BLOBTOOL names. It takes some minutes; a TMPDIR
-# in memory makes it shorter.
+# crates/blobtool/out/blobtool, which `rt run` proves and builds, or what BLOBTOOL names. It takes some minutes, fewer
+# with a TMPDIR in memory.
 set -uo pipefail
 cd "$(dirname "$0")/.."
 program=${BLOBTOOL:-$PWD/crates/blobtool/out/blobtool}
