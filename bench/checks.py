@@ -13,7 +13,7 @@ def flushes(bench, base, script):
 
 
 def put_flushes(bench, first):
-    """How often ten puts flush, behind these commands on a new volume."""
+    """How often ten puts flush, after these commands on a new volume."""
     base = bench.path("puts.image")
     images.make_sparse(base, 1 << 20)
     bench.run(["format", base, "--cluster", "16384"])
@@ -25,7 +25,7 @@ def put_flushes(bench, first):
 
 
 def puts(bench):
-    """How often puts flush, and how often they must: a put flushes behind its head; before that where its chain has
+    """How often puts flush, and how often they must: a put flushes after its head; before that where its chain has
     other pages; and once more where the chain had pages that are given back. A flush with nothing to make lasting makes
     no call."""
     long = "x" * 3000

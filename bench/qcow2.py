@@ -39,7 +39,7 @@ def is_there():
 
 
 def commands_of(writes, flush_each):
-    """Writes of a page each, as pairs of a page and a word, with a flush behind each or behind all."""
+    """Writes of a page each, as pairs of a page and a word, with a flush after each or after all."""
     lines = []
     for page, word in writes:
         lines.append(f"write -P {word % 256} {page * PAGE} {PAGE}")

@@ -77,7 +77,7 @@ def random_writes(cluster, flush_each):
 
 
 def snapshot_writes():
-    """Pages written to a thin volume of 1 GiB, with a snapshot behind each two hundred: the script, and the pages."""
+    """Pages written to a thin volume of 1 GiB, with a snapshot after each two hundred: the script, and the pages."""
     draw = random.Random(3)
     pages = [draw.randrange(GIB // PAGE) for _ in range(2000)]
     lines = []

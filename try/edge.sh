@@ -180,7 +180,7 @@ calls=$(counted)
 cp before i
 failing "pwrite 2" run i <script >out 2>errors
 if [ "$(counted)" = "$calls" ]; then echo "ok     a short write is followed by the calls that a failed one is"; else
-    echo "differs: reads, writes and syncs are $(counted), behind a failed write $calls" && differs=1
+    echo "differs: reads, writes and syncs are $(counted), after a failed write $calls" && differs=1
 fi
 
 [ "$differs" != 0 ] || echo "all ended as it is wanted"

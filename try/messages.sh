@@ -71,7 +71,7 @@ called() {
     fi
     status=$?
     if [[ $status =~ [1-4] ]] && [ -n "$before" ] && [ "$before" != "$(cksum <"$2")" ]; then
-        echo "differs: the image is another one behind status $status" && differs=1
+        echo "differs: the image is another one after status $status" && differs=1
     fi
     unset_all
 }

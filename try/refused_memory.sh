@@ -1,7 +1,7 @@
 #!/usr/bin/env bash
 # Refuses the program one request for memory after the other, one in each call, over each command. Wanted is that the
 # call tells it, by status 7 or by `no memory` in its log, or that it asks again and ends as if nothing was refused; and
-# that the image then shows what it did behind a first part of the script, or behind the script without the command that
+# that the image then shows what it did after a first part of the script, or after the script without the command that
 # was answered so. Ends with a status other than 0 where one differs. Words are options of `run`. The program is
 # crates/blobtool/out/blobtool, which `rt run` proves and builds, or what BLOBTOOL names. It takes some minutes, fewer
 # with a TMPDIR in memory.
@@ -92,7 +92,7 @@ cat >script <<'END'
 END
 lines=$(wc -l <script)
 
-# What is shown behind each first part of the script, and what the script without one of its lines answers and shows.
+# What is shown after each first part of the script, and what the script without one of its lines answers and shows.
 : >none
 for ((line = 0; line <= lines; line++)); do
     cp empty image
@@ -103,7 +103,7 @@ for ((line = 0; line <= lines; line++)); do
     shown image >"without.$line"
 done
 
-# is_behind: whether the image shows what it did behind a first part of the script.
+# is_behind: whether the image shows what it did after a first part of the script.
 is_behind() {
     local line
     for ((line = 0; line <= lines; line++)); do
@@ -193,5 +193,5 @@ sweep look_at_command generate 7 40 </dev/null
 cp empty before
 sweep look_at_command exercise image 7 20 </dev/null
 
-[ "$differs" != 0 ] || echo "each want of memory is told, or made good"
+[ "$differs" != 0 ] || echo "each time memory ran out is told, or made good"
 exit "$differs"

@@ -99,11 +99,11 @@ class Store:
 
 
 def replayed(commands, entries):
-    """The volumes behind these entries, each answer of which plain volumes give, in the order of its channel."""
+    """The volumes after these entries, each answer of which plain volumes give, in the order of its channel."""
     volumes, done = Volumes(), [0] * 16
     for channel, number, reply in entries:
         if number != done[channel] or number >= len(commands[channel]):
-            raise Wrong(f"channel {channel} answers {number} behind {done[channel]} commands")
+            raise Wrong(f"channel {channel} answers {number} after {done[channel]} commands")
         volumes.apply(*commands[channel][number], reply)
         done[channel] += 1
     return volumes, done
@@ -134,7 +134,7 @@ def whole(store, draw):
 
 
 def states_of(own):
-    """What is shown behind each first part of a channel's commands, if no other channel has its volumes."""
+    """What is shown after each first part of a channel's commands, if no other channel has its volumes."""
     volumes = Volumes()
     states = [volumes.shown()]
     for verb, words in own:
@@ -144,12 +144,12 @@ def states_of(own):
 
 
 def check_first_parts(shown, commands, printed):
-    """Expects that the volumes of each channel are as behind a first part of its commands, with all that were
+    """Expects that the volumes of each channel are as after a first part of its commands, with all that were
     printed."""
     for channel, own in enumerate(commands):
         mine = {name: volume for name, volume in shown.items() if int(name[1:]) == channel}
         if mine not in states_of(own)[printed[channel] :]:
-            raise Wrong(f"channel {channel} behind {printed[channel]} printed commands: {mine}")
+            raise Wrong(f"channel {channel} after {printed[channel]} printed commands: {mine}")
 
 
 def killed(store, draw):

@@ -135,14 +135,14 @@ one_gone() {
     [ "$status" = 0 ] || differ "status $status $(cat errors)"
     cmp log wanted || differ "an answer"
     cmp plain "mirror$((1 - gone))" || differ "the mirror that is left"
-    ! cmp -s mirror0 mirror1 || differ "the server was killed behind the end of the run"
+    ! cmp -s mirror0 mirror1 || differ "the server was killed after the end of the run"
     volumes=$("$program" list "mirror$gone" | grep -c '^@') || differ "the mirror that fell behind doesn't load"
     echo "moment $1: server $gone is gone, all is answered; its mirror fell behind, at $volumes volumes"
 }
 
 # split_log: what the log tells. `settled` are the script's lines that were answered before the store stopped, and done;
 # `next` is the one behind them, whose answer is `fault`, or `stopped` where a call failed that the snapshot before it
-# makes behind its own answer; `flushed` are those of `settled` up to the last flush; `looking` reads each page that
+# makes after its own answer; `flushed` are those of `settled` up to the last flush; `looking` reads each page that
 # these wrote, of the volumes that no later line names.
 split_log() {
     answered=$(grep -n -m 1 -E '^0 [0-9]+ (fault|stopped [0-9]+)$' log | cut -d : -f 1)
