@@ -51,7 +51,7 @@ tells "error: unexpected argument 'more' found" list i more
 tells "error: unexpected argument '--new' found" run i --new
 tells "error: the argument '--cluster <BYTES>' cannot be used multiple times" format i --cluster 4096 --cluster 4096
 tells "error: a value is required for '--cluster <BYTES>' but none was supplied" format i --cluster
-says 1 "blobtool 0.1.0 (SPDK Blobstore, format version 3)" --version
+says 1 $'blobtool 0.1.0 (SPDK Blobstore, format version 3)\nproved with '"$(rt version)" --version
 
 row "line N of the script: WRONG, wanted FORM"
 form="not of its form, wanted CHANNEL VERB WORDS, as many as the verb has, with one space between two"

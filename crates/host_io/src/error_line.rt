@@ -8,7 +8,16 @@ use crate::image::{OpenFault, OtherFile};
 use crate::on_line::OnLine;
 use crate::super_words::ImageSizes;
 use blob_tool::{LineKind, Status};
+use clap::Error;
+use clap::error::ErrorKind;
 use std::fmt::{Display, Formatter, Result, Write};
+
+/// The toolchain and its logic, with which the program is proved: what `rt version` prints.
+const PROVED_WITH: &str = "rattle-kit-13f logic dac8208d650f15bf";
+
+/// What `clap` says of words that are no command, and after the version what the program is proved with.
+#[derive(Clone, Copy)]
+struct SaidWords<'a>(&'a Error);
 
 /// How a command ended, and of what: the line on standard error. Where `clap` says it, that is its text of some lines.
 #[derive(Drop)]
@@ -42,6 +51,17 @@ struct HolderWords(DeviceHolder);
 /// Why an image isn't had.
 #[derive(Clone, Copy)]
 struct OpenWords<'a>(&'a OpenFault);
+
+impl<'a> Display for SaidWords<'a> {
+    fn fmt<W: Write>(&self, f: &mut Formatter<W>) -> Result {
+        let said = self.0;
+        write!(f, "{said}")?;
+        match said.kind() {
+            ErrorKind::DisplayVersion => write!(f, "proved with {PROVED_WITH}\n"),
+            _ => Ok(()),
+        }
+    }
+}
 
 impl Display for LineWords {
     fn fmt<W: Write>(&self, f: &mut Formatter<W>) -> Result {
@@ -140,6 +160,23 @@ impl<'a> ErrorLine<'a> {
         }
     }
 
+    /// The start of each line of the program's own: of which command it is, and of which image.
+    fn write_start<W: Write>(&self, f: &mut Formatter<W>) -> Result {
+        write!(f, "blobtool: ")?;
+        if let Some(command) = self.command {
+            let command = OnLine(command);
+            write!(f, "{command}")?;
+            f.write_str(if self.image.is_some() { " " } else { ": " })?;
+        }
+        match self.image {
+            Some(image) => {
+                let image = OnLine(image);
+                write!(f, "{image}: ")
+            }
+            None => Ok(()),
+        }
+    }
+
     /// The call that failed, or what stands for it where it isn't known.
     fn write_failure<W: Write>(&self, otherwise: &str, f: &mut Formatter<W>) -> Result {
         match &self.failure {
@@ -184,22 +221,15 @@ impl<'a> ErrorLine<'a> {
 
 impl<'a> Display for ErrorLine<'a> {
     fn fmt<W: Write>(&self, f: &mut Formatter<W>) -> Result {
-        if let Ending::Refused(text) = &self.ending {
-            return write!(f, "{text}");
-        }
-        write!(f, "blobtool: ")?;
-        if let Some(command) = self.command {
-            let command = OnLine(command);
-            write!(f, "{command}")?;
-            f.write_str(if self.image.is_some() { " " } else { ": " })?;
-        }
-        if let Some(image) = self.image {
-            let image = OnLine(image);
-            write!(f, "{image}: ")?;
+        if !matches!(&self.ending, Ending::Refused(_)) {
+            self.write_start(f)?;
         }
         match &self.ending {
             Ending::Ran(status) => self.write_status(status, f),
-            Ending::Refused(text) => write!(f, "{text}"),
+            Ending::Refused(said) => {
+                let words = SaidWords(said);
+                write!(f, "{words}")
+            }
             Ending::BadWord(fault) => write!(f, "{fault}"),
             Ending::NotText => write!(f, "a word is not UTF-8, wanted words in UTF-8"),
             Ending::NotOpened(fault) => {

@@ -92,7 +92,7 @@ fn other_endings_are_told(rt: HostRuntime) -> Result<(), Fail> {
     let text = ErrorLine::new(Some("run"), None, Ending::Refused(version(rt.alloc())?));
     assert_eq!(rt;
         format!(in rt.alloc(); "{text}")?.as_str(),
-        "blobtool 0.1.0 (SPDK Blobstore, format version 3)\n"
+        "blobtool 0.1.0 (SPDK Blobstore, format version 3)\nproved with rattle-kit-13f logic dac8208d650f15bf\n"
     );
     let text = ErrorLine::new(None, None, Ending::NotText);
     assert_eq!(rt;
