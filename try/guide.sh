@@ -1,13 +1,15 @@
 #!/usr/bin/env bash
-# Does what docs/GUIDE.md says, and compares what is printed with what the guide shows. Ends with a status other than 0
-# where they differ. The programs are built without proof, once for all commands in a row of one program.
-set -euo pipefail
+# Types what docs/GUIDE.md shows as typed, and compares what is printed with what the guide shows below it. Ends with a
+# status other than 0 where they differ. The program is what BLOBTOOL names, or else crates/blobtool/out/blobtool, which
+# `rt run` proves and builds. power_cut, which no image of an administrator sees, is built without proof by the guide's
+# own words. Wants bash, Python 3 and jq.
+set -uo pipefail
 cd "$(dirname "$0")/.."
+program=${BLOBTOOL:-$PWD/crates/blobtool/out/blobtool}
+[ -x "$program" ] || { echo "there is no $program: cd crates/blobtool && rt run -- generate 1 1" && exit 1; }
 work=$(mktemp -d)
 image=
 trap 'rm -rf "$work" "$image"' EXIT
-mkdir "$work/cases"
-crate=
 differs=0
 
 # The guide's blocks as files: N.sh is typed, and N.text is what it prints.
@@ -17,38 +19,17 @@ awk -v work="$work" '
     /^```/ { to = ""; next }
     to { print > to }
 ' docs/GUIDE.md
-
-# Runs the commands that are kept, and compares what they print.
-run_kept() {
-    [ -n "$crate" ] || return 0
-    (cd "crates/$crate" && rt try --cases "$work/cases") >"$work/printed" || differs=1
-    diff -u --label "docs/GUIDE.md" --label "printed" "$work/shown" "$work/printed" || differs=1
-    rm "$work"/cases/* "$work/shown"
-}
-
-# keep CRATE WORDS: keeps the block's command for later, with its standard input and what the guide shows of it.
-keep() {
-    [ "$1" = "$crate" ] || run_kept
-    crate=$1
-    shift
-    printf '%s\n' "$@" >"$work/cases/$block.args"
-    cat >"$work/cases/$block"
-    { echo "== $block" && cat "$work/$block.text"; } >>"$work/shown"
-    rm "$work/$block.text"
-}
+[ -e "$work/01.sh" ] || { echo "docs/GUIDE.md has no command" && exit 1; }
+[ ! -e "$work/00.text" ] || { echo "no command prints this:" && cat "$work/00.text" && exit 1; }
 
 for file in "$work"/*.sh; do
-    block=$(basename "$file" .sh)
     cat "$file"
-    . "$file" </dev/null
-    # In place of the guide's own, which build the program for each command.
-    blobtool() { keep blobtool "$@"; }
-    power_cut() { keep power_cut "$@"; }
-done
-run_kept
-[ -n "$crate" ] || { echo "docs/GUIDE.md has no command" && exit 1; }
-for file in "$work"/*.text; do
-    [ ! -e "$file" ] || { echo "no command prints this:" && cat "$file" && exit 1; }
+    . "$file" </dev/null >"$work/printed"
+    # In place of the guide's own, which builds the program for each command.
+    blobtool() { "$program" "$@"; }
+    shown=${file%.sh}.text
+    [ -e "$shown" ] || shown=/dev/null
+    diff -u --label docs/GUIDE.md --label printed "$shown" "$work/printed" || differs=1
 done
 [ "$differs" != 0 ] || echo "all is printed as the guide shows it"
 exit "$differs"
