@@ -5,7 +5,6 @@ mod alone;
 mod asking;
 mod begin;
 mod deleting;
-mod deletion_parts;
 mod drafts;
 mod erasing;
 mod filling;
@@ -13,8 +12,8 @@ mod inserting;
 mod preparing;
 mod repairing;
 mod single_jobs;
-mod snapshot_parts;
 mod snapshotting;
+mod steps;
 mod taking;
 
 pub use alone::add_clusters;

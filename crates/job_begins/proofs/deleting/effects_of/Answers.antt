@@ -25,13 +25,13 @@ returns-clause-are g c =
     record {
       mark_room = c.in_ok-room.room;
       mark = c.in_ok-room.ensures.place;
-      begin = λ i. record {
+      begin_is = λ i. record {
         commit = None;
         freed = c.new.ensures i;
         claimed = c.new-2.ensures i;
         rooms = record { chain = None; meta = c.in_ok-room.room };
       };
-      commit = λ i. record {
+      commit_is = λ i. record {
         commit = Some (record {
           made = None;
           live = Some (record { head = ask.of; value = None; room = None });
