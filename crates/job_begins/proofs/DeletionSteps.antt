@@ -1,7 +1,7 @@
 -- The replacements of a delete's job, of a blob with one clone, of which drafts are made: what is known of them.
-use Rattle.std.proofs.Common.{◌≡◌, ◌∙◌, ℕ, ◌<◌, true, false, List, [], ◌∷◌, length, Option, None, Some, refl}
+use Rattle.std.proofs.Common.{◌≡◌, ◌∙◌, ℕ, ◌<◌, true, List, [], ◌∷◌, length, None, Some, refl}
 use Rattle.std.proofs.Common.{sym, ap, subst, ◌↔◌}
-use Rattle.std.specs.Prelude.{is_some, not}
+use Rattle.std.specs.Prelude.{is_some}
 use Rattle.std.specs.List.{AllByRecursion}
 use Rattle.page_disk.specs.declared.disk.PageDisk.{Ghosts}
 use Rattle.volume_model.specs.declared.command.Command.{Command}
@@ -51,7 +51,7 @@ use Rattle.job_begins.proofs.ListMoves.{erases_moves, marks_moves, takes_moves}
 use Rattle.job_begins.proofs.ListParts.{draft_as, draft_of}
 use Rattle.job_begins.proofs.StepsBegin.{placed}
 use Rattle.job_begins.proofs.StepsLaid.{AllMove}
-use Rattle.job_begins.proofs.StepsOver.{steps_short, AreOver}
+use Rattle.job_begins.proofs.StepsOver.{stays, steps_short, AreOver}
 
 module _ {D : Type 0} {d : Ghosts D} {store : Running D} {channel : ℕ} (can : CanBegin d store channel)
     {x : DeletionAsk}
@@ -143,9 +143,6 @@ module _ {D : Type 0} {d : Ghosts D} {store : Running D} {channel : ℕ} (can : 
 
     abbrev marked_base : Metas
     marked_base = with_option s.base x.of (Some going)
-
-    stays : {m : Meta} (base : Metas) (head : ℕ) → base head ≡ Some m → false ≡ not (is_some (base head))
-    stays base head is = ap (λ (o : Option Meta). not (is_some o)) (sym is)
 
     -- both blobs are there
     pub over : AreOver s.base list

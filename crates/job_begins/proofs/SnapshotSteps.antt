@@ -1,5 +1,5 @@
 -- The replacements of a snapshot's job, of which drafts are made: what is known of them.
-use Rattle.std.proofs.Common.{◌≡◌, ◌∙◌, ℕ, ◌<◌, Bool, true, false, List, [], ◌∷◌, drop, length, Option, None}
+use Rattle.std.proofs.Common.{◌≡◌, ◌∙◌, ℕ, ◌<◌, Bool, true, List, [], ◌∷◌, drop, length, Option, None}
 use Rattle.std.proofs.Common.{Some, refl, sym, ap, subst, arith, IsSome}
 use Rattle.std.specs.Prelude.{is_some, not}
 use Rattle.std.specs.List.{AllByRecursion}
@@ -45,7 +45,7 @@ use Rattle.job_begins.proofs.SnapshotAsked.{IsSnapshotAsked}
 use Rattle.job_begins.proofs.SnapshotKnown as before
 use Rattle.job_begins.proofs.StepsBegin.{placed, used}
 use Rattle.job_begins.proofs.StepsLaid.{AllMove}
-use Rattle.job_begins.proofs.StepsOver.{steps_short, AreOver}
+use Rattle.job_begins.proofs.StepsOver.{stays, steps_short, AreOver}
 
 module _ {D : Type 0} {d : Ghosts D} {store : Running D} {channel : ℕ} (can : CanBegin d store channel)
     {x : SnapshotAsk}
@@ -183,10 +183,6 @@ module _ {D : Type 0} {d : Ghosts D} {store : Running D} {channel : ℕ} (can : 
 
   abbrev emptied_base : Metas
   emptied_base = with_option filled_base x.of (Some emptied)
-
-  -- it is there, so that the blob isn't made
-  stays : {m : Meta} (base : Metas) (head : ℕ) → base head ≡ Some m → false ≡ not (is_some (base head))
-  stays base head is = ap (λ (o : Option Meta). not (is_some o)) (sym is)
 
   -- the first makes a blob, which is there for the others
   pub over : AreOver s.base list

@@ -1,5 +1,5 @@
 -- What is known of the replacements of a job before their pages are taken, and how many they take.
-use Rattle.std.proofs.Common.{◌≡◌, ◌∙◌, ℕ, ◌-◌, Bool, true, false, List, [], ◌∷◌, length, map, None, Some}
+use Rattle.std.proofs.Common.{◌≡◌, ◌∙◌, ℕ, ◌-◌, Bool, true, false, List, [], ◌∷◌, length, map, None, Option, Some}
 use Rattle.std.proofs.Common.{refl, sym, ap, subst, arith, inl}
 use Rattle.std.specs.Prelude.{is_some, not}
 use Rattle.volume_model.specs.declared.command.Command.{Command}
@@ -7,6 +7,7 @@ use Rattle.volume_model.specs.declared.reply.Reply.{Reply}
 use Rattle.volume_model.specs.declared.reply.Reply.TheVariants as r
 use Rattle.blob_meta.specs.declared.job.Job.{Job}
 use Rattle.blob_meta.specs.declared.job.Replacement.{Replacement}
+use Rattle.blob_meta.specs.declared.meta.Meta.{Meta}
 use Rattle.md_chain.specs.Packing.{parts_of}
 use Rattle.md_chain.proofs.Fitting.{some_parts}
 use Rattle.store_model.specs.Asking.{IsJobFor}
@@ -40,6 +41,10 @@ base_with base x = with_option base (change_of x).head (change_of x).new
 abbrev pub AreOver : Metas → List Step → Type 0
 AreOver base [] = Unit {0}
 AreOver base (x ∷ xs) = IsOver base x × AreOver (base_with base x) xs
+
+-- where a blob is there none is made
+pub stays : {m : Meta} (base : Metas) (head : ℕ) → base head ≡ Some m → false ≡ not (is_some (base head))
+stays base head is = ap (λ (o : Option Meta). not (is_some o)) (sym is)
 
 -- ---- how many pages they take
 

@@ -4,8 +4,8 @@ ghost use Rattle.std.specs.Prelude.{◌≡◌, ◌++◌, ◌∷◌, [], None, So
 ghost use Rattle.blob_meta.specs.declared.job.Job.{Job as AJob};
 ghost use Rattle.job_begins.specs.Asks.{IsAskOf};
 
+use crate::besides::nothing_besides;
 use crate::drafts::Draft;
-use crate::single_jobs::nothing_besides;
 use crate::steps::Step;
 use blob_meta::{Job, Meta, Replacement, ReplacementList};
 use out_of_memory::Memory;

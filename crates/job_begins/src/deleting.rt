@@ -20,6 +20,7 @@ ghost use Rattle.store_model.specs.Cases.{Begins, IsRefusedAtBegin};
 
 use crate::alone::{add_clusters, clusters_beside, missing};
 use crate::asking::DeletionAsk;
+use crate::besides::{committing, in_rooms};
 use crate::steps::Step;
 use crate::taking::job_on_pages;
 use out_of_memory::Memory;
@@ -53,38 +54,25 @@ fn effects_of<D>(
     let mut beside = clusters_beside(running, ask.of)?;
     add_clusters(&mut beside, &ask.taking.map);
     let freed = missing(alloc, &mut beside, &ask.going.map)?;
-    let begin = Effects {
-        commit: None,
-        freed: PlaceList::new(alloc),
-        claimed: PlaceList::new(alloc),
-        rooms: Rooms {
-            chain: None,
-            meta: room,
-        },
+    let rooms = Rooms {
+        chain: None,
+        meta: room,
     };
-    let commit = Effects {
-        commit: Some(Commit {
-            made: None,
-            live: Some(EntryChange {
-                head: ask.of,
-                value: None,
-                room: None,
-            }),
-            renews: PlaceList::from_vec(renews),
-            shows: Some(EntryChange {
-                head: ask.of,
-                value: None,
-                room: None,
-            }),
+    let commit = Commit {
+        made: None,
+        live: Some(EntryChange {
+            head: ask.of,
+            value: None,
+            room: None,
         }),
-        freed: PlaceList::new(alloc),
-        claimed: PlaceList::new(alloc),
-        rooms: Rooms {
-            chain: None,
-            meta: None,
-        },
+        renews: PlaceList::from_vec(renews),
+        shows: Some(EntryChange {
+            head: ask.of,
+            value: None,
+            room: None,
+        }),
     };
-    Ok((begin, commit, freed))
+    Ok((in_rooms(alloc, rooms), committing(alloc, commit), freed))
 }
 
 /// The replacements of a delete's job.

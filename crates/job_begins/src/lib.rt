@@ -4,6 +4,7 @@
 mod alone;
 mod asking;
 mod begin;
+mod besides;
 mod deleting;
 mod drafts;
 mod erasing;

@@ -14,6 +14,7 @@ ghost use Rattle.running_store.specs.StoreView.{state_of};
 ghost use Rattle.store_model.specs.Cases.{Begins, IsRefusedAtBegin};
 
 use crate::asking::SnapshotAsk;
+use crate::besides::{committing, in_rooms};
 use crate::steps::Step;
 use crate::taking::job_on_pages;
 use out_of_memory::Memory;
@@ -40,38 +41,25 @@ fn effects_of<D>(running: &Running<D>, ask: &SnapshotAsk) -> Result<(Effects, Ef
     let renews = vec![in alloc; ask.of, ask.head]?;
     let xattrs = ask.made.xattrs.try_copy(alloc)?;
     let shown = ask.made.try_copy(alloc)?;
-    let begin = Effects {
-        commit: None,
-        freed: PlaceList::new(alloc),
-        claimed: PlaceList::new(alloc),
-        rooms: Rooms {
-            chain: chain_room,
-            meta: mark_room,
-        },
+    let rooms = Rooms {
+        chain: chain_room,
+        meta: mark_room,
     };
-    let commit = Effects {
-        commit: Some(Commit {
-            made: Some(ask.head),
-            live: Some(EntryChange {
-                head: ask.head,
-                value: Some(xattrs),
-                room: live_room,
-            }),
-            renews: PlaceList::from_vec(renews),
-            shows: Some(EntryChange {
-                head: ask.head,
-                value: Some(shown),
-                room: shown_room,
-            }),
+    let commit = Commit {
+        made: Some(ask.head),
+        live: Some(EntryChange {
+            head: ask.head,
+            value: Some(xattrs),
+            room: live_room,
         }),
-        freed: PlaceList::new(alloc),
-        claimed: PlaceList::new(alloc),
-        rooms: Rooms {
-            chain: None,
-            meta: None,
-        },
+        renews: PlaceList::from_vec(renews),
+        shows: Some(EntryChange {
+            head: ask.head,
+            value: Some(shown),
+            room: shown_room,
+        }),
     };
-    Ok((begin, commit))
+    Ok((in_rooms(alloc, rooms), committing(alloc, commit)))
 }
 
 /// The replacements of a snapshot's job.
