@@ -32,16 +32,19 @@ pub mod EntryPlaces
 pub mod PlacesThere
 pub mod SnapshotPlaces
 pub mod DeletePlaces
-pub mod PlacesInParts
-pub mod SnapshotLaid
 pub mod SnapshotAsked
-pub mod SnapshotLacks
 pub mod SnapshotKnown
-pub mod SnapshotListed
+pub mod SnapshotSteps
 pub mod SnapshotBegins
 pub mod ListParts
+pub mod LayingOn
+pub mod StepsOver
+pub mod StepsFollow
+pub mod StepsLaid
+pub mod StepsMade
+pub mod StepsBegin
 pub mod DeletionAsked
-pub mod DeletionLaid
+pub mod DeletionSteps
 pub mod DeletionBegins
 pub mod PassedOn
 mod ChainFound

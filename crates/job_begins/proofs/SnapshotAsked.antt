@@ -1,8 +1,7 @@
 -- What is known where a snapshot is asked for, before its job begins.
-use Rattle.std.proofs.Common.{◌≡◌, ◌≢◌, ◌∙◌, ℕ, ◌<◌, true, List, [], ◌∷◌, length, None, Some, refl, sym, ap, subst}
+use Rattle.std.proofs.Common.{◌≡◌, ◌≢◌, ◌∙◌, ℕ, ◌<◌, List, [], ◌∷◌, length, None, Some, refl, sym, ap, subst}
 use Rattle.std.proofs.Common.{arith}
 use Rattle.std.specs.Prelude.{codes}
-use Rattle.bit_array.specs.Bits.{is_in}
 use Rattle.volume_model.specs.Volumes.{two_xattrs}
 use Rattle.volume_model.specs.Xattrs.{Xattrs}
 use Rattle.volume_model.specs.declared.command.Command.{Command}
@@ -22,7 +21,6 @@ use Rattle.shown_volumes.proofs.WellStored.{meets_tests}
 use Rattle.store_model.specs.Asking.{clones, creates, deletes, fills, IsJobFor, IsSnapshotJob, resizes, snapshots}
 use Rattle.store_model.specs.Asking.{syncs}
 use Rattle.store_model.specs.Phases.{Committing}
-use Rattle.store_model.specs.Places.{held_by, UsedPages}
 use Rattle.store_model.specs.RunInvariant.{CanBeWritten, RunsWell}
 use Rattle.store_model.specs.Shown.{fixed_of}
 use Rattle.store_model.specs.Steady.{IsStored}
@@ -31,7 +29,6 @@ use Rattle.store_model.proofs.FamilyStep.{at_rest, few_heads}
 use Rattle.store_model.proofs.Known.{Known}
 use Rattle.store_model.proofs.NewBlob.{two_written}
 use Rattle.store_model.proofs.OneReplacement.{base_steady}
-use Rattle.store_model.proofs.Sets.{among_first}
 use Rattle.running_store.specs.RunningState.{IsRunning}
 use Rattle.job_begins.specs.Snapshots.{AsksToSnapshot}
 use Rattle.job_begins.specs.declared.asking.SnapshotAsk.{SnapshotAsk}
@@ -107,7 +104,6 @@ module _ (p : StoreState) (running : IsRunning p) (clean : HasNoMarks p.base) (r
     pub rest : IsAtRest (fixed_of p.super) p.base
     pub chain : (behind : List ℕ) × (p.chains x.of ≡ Some (x.of ∷ behind))
     pub no_chain : p.chains x.head ≡ None
-    pub volume_in_use : is_in p.pages x.of ≡ true
     pub begun_can : CanAllBeWritten x.begun
     pub filled_can : CanAllBeWritten x.filled
     pub emptied_can : CanAllBeWritten x.emptied
@@ -212,9 +208,6 @@ module _ (p : StoreState) (running : IsRunning p) (clean : HasNoMarks p.base) (r
   volume_chain : (behind : List ℕ) × (p.chains x.of ≡ Some (x.of ∷ behind))
   volume_chain = well.chains.chain x.of volume there_of
 
-  used : UsedPages p.super.md_len p.pages p.chains []
-  used = subst (UsedPages p.super.md_len p.pages p.chains) (ap held_by no_job) well.pages
-
   -- what is known of it
   pub snapshot_asked : IsSnapshotAsked
   snapshot_asked = record {
@@ -236,12 +229,6 @@ module _ (p : StoreState) (running : IsRunning p) (clean : HasNoMarks p.base) (r
     rest = at_rest known clean;
     chain = volume_chain;
     no_chain = well.chains.none x.head none_at;
-    volume_in_use = used.linked x.of (record {
-      head = x.of;
-      pages = x.of ∷ volume_chain.0;
-      chain = volume_chain.1;
-      among = among_first x.of volume_chain.0;
-    });
     begun_can = subst CanAllBeWritten (sym begun_is) (begun_at.xattrs, begun_at.internal);
     filled_can = subst CanAllBeWritten (sym filled_is) (filled_at.xattrs, filled_at.internal);
     emptied_can = subst CanAllBeWritten (sym emptied_is) (

@@ -1,13 +1,14 @@
 -- What is known of the snapshot that a posted command asks for, in the store as it is in memory.
-use Rattle.std.proofs.Common.{◌∙◌, ℕ, [], sym, ap, subst, IsSome}
+use Rattle.std.proofs.Common.{◌∙◌, ℕ, ap, IsSome}
 use Rattle.std.specs.Prelude.{is_some}
 use Rattle.std.specs.FinMap as map
 use Rattle.page_disk.specs.declared.disk.PageDisk.{Ghosts}
-use Rattle.super_block.specs.Placed.{IsPlaced}
 use Rattle.volume_model.specs.declared.command.Command.{Command}
-use Rattle.store_model.specs.Places.{held_by, UsedPages}
+use Rattle.volume_model.specs.declared.reply.Reply.TheVariants as r
+use Rattle.store_model.specs.Cases.{IsRefusedAtBegin}
 use Rattle.store_model.specs.RunInvariant.{RunsWell}
-use Rattle.store_model.specs.StoreState.{StoreState}
+use Rattle.store_model.specs.Shown.{fixed_of}
+use Rattle.store_model.specs.StoreState.{shown, StoreState}
 use Rattle.running_store.specs.Steps.{Asks}
 use Rattle.running_store.specs.StoreView.{state_of, StoreView}
 use Rattle.running_store.specs.Running.{view_of}
@@ -17,6 +18,7 @@ use Rattle.job_begins.specs.Begins.{IsFreshHead}
 use Rattle.job_begins.specs.Snapshots.{AsksToSnapshot}
 use Rattle.job_begins.specs.declared.asking.SnapshotAsk.{SnapshotAsk}
 use Rattle.job_begins.proofs.BeginKnown.{no_job}
+use Rattle.job_begins.proofs.Lacking.{may_lack}
 use Rattle.job_begins.proofs.SnapshotAsked.{snapshot_asked, IsSnapshotAsked}
 
 module _ {D : Type 0} {d : Ghosts D} {store : Running D} {channel : ℕ} (can : CanBegin d store channel)
@@ -40,12 +42,6 @@ module _ {D : Type 0} {d : Ghosts D} {store : Running D} {channel : ℕ} (can : 
   well : RunsWell can.running.first s
   well = can.running.facts.well can.runs
 
-  pub placed : IsPlaced p.super
-  placed = subst IsPlaced (sym can.running.facts.super) can.running.placed
-
-  pub used : UsedPages p.super.md_len p.pages s.chains []
-  used = subst (UsedPages p.super.md_len p.pages s.chains) (ap held_by (no_job can)) well.pages
-
   -- the volume has a generation
   pub numbered : IsSome (map.get p.guards.generations x.of)
   numbered = well.generations.each x.of ∙ ap is_some known.there
@@ -53,3 +49,7 @@ module _ {D : Type 0} {d : Ghosts D} {store : Running D} {channel : ℕ} (can : 
   -- the new blob's head is the page that is next
   pub next_head : IsFreshHead p.pages x.head
   next_head = asks.next known.none
+
+  -- memory may run out
+  pub snapshot_memory : IsRefusedAtBegin s command r.Memory
+  snapshot_memory = may_lack (fixed_of p.super) (shown s) s command asks.job asks.commit asks.asked

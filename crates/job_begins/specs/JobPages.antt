@@ -1,8 +1,7 @@
--- The pages of a job, taken at once, and the job on them.
+-- The pages of a job, taken at once.
 use Rattle.std.specs.Prelude.{◌≡◌, ◌<◌, ℕ, Bool, true, List, length}
 use Rattle.pools.specs.Pool.{clear_in}
 use Rattle.store_model.specs.Places.{all_set, AreLeastClear}
-use Rattle.running_store.specs.declared.job.RunningJob.{RunningJob}
 use Rattle.volume_model.specs.declared.reply.Reply.{Reply}
 use Rattle.volume_model.specs.declared.reply.Reply.TheVariants as r
 
@@ -11,13 +10,6 @@ pub record ArePagesTaken (count : ℕ) (old new : List Bool) (places : List ℕ)
   pub least : AreLeastClear old places
   pub long : length places ≡ count
   pub set : new ≡ all_set old places true
-
--- The job is on pages of which so many are taken for it.
-pub record IsOnPages (count : ℕ) (is_laid : List ℕ → RunningJob → Type 0) (old new : List Bool) (job : RunningJob)
-    : Type 0 where
-  pub taken : List ℕ
-  pub pages : ArePagesTaken count old new taken
-  pub laid : is_laid taken job
 
 -- why a job of so many pages doesn't begin: fewer are clear, or memory ran out
 abbrev pub IsShort : ℕ → List Bool → Reply → Type 0

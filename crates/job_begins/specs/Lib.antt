@@ -7,6 +7,7 @@ pub mod ListJobs
 pub mod ListPlaces
 pub mod Drafts
 pub mod JobPages
+pub mod JobSteps
 pub mod Snapshots
 pub mod Deletions
 pub mod Asks

@@ -4,13 +4,14 @@ ghost use Rattle.std.specs.Prelude.{◌≡◌, ◌++◌, ◌∷◌, [], None, So
 ghost use Rattle.blob_meta.specs.declared.job.Job.{Job as AJob};
 ghost use Rattle.job_begins.specs.Asks.{IsAskOf};
 
-use crate::deletion_parts::DeletionDrafts;
+use crate::besides::nothing_besides;
 use crate::drafts::Draft;
-use crate::snapshot_parts::SnapshotDrafts;
+use crate::steps::Step;
 use blob_meta::{Job, Meta, Replacement, ReplacementList};
 use out_of_memory::Memory;
+use running_store::{Effects, Erasure};
 use std::alloc::Global;
-use volume_model::SlotList;
+use volume_model::{PlaceList, SlotList};
 
 /// What the delete of the blob at `of` asks for, whose one clone is at `clone`: the blob with its mark, and the clone
 /// with the blob's clusters and parent.
@@ -37,11 +38,17 @@ impl DeletionAsk {
     ghost use Rattle.md_chain.specs.Packing.{FitsPage};
     ghost use Rattle.job_begins.specs.Deletions.{AreDeletionDrafts};
 
-    /// The drafts of what is asked for.
-    pub(crate) fn drafts(self, alloc: Global) -> Result<DeletionDrafts, Memory>
+    /// The replacements that do so, with what the first and the commit do besides, and the clusters that are freed.
+    pub(crate) fn steps(
+        self,
+        alloc: Global,
+        begin: Effects,
+        commit: Effects,
+        freed: PlaceList,
+    ) -> Result<Vec<Step>, Memory>
         requires going { All FitsPage self.going.xattrs × All FitsPage self.going.internal }
         requires taking { All FitsPage self.taking.xattrs × All FitsPage self.taking.internal }
-        ensures { IfOk result (AreDeletionDrafts self) }
+        ensures { IfOk result (λ steps. AreDeletionDrafts self begin commit freed steps.items) }
     {
         let DeletionAsk {
             of,
@@ -49,8 +56,17 @@ impl DeletionAsk {
             going,
             taking,
         } = self;
-        let (going, taking) = Draft::two(alloc, (of, going), (clone, taking))?;
-        Ok(DeletionDrafts { going, taking })
+        let erasure = Erasure {
+            head: of,
+            commit: None,
+            freed,
+        };
+        let (going, taking) = Draft::two(alloc, (of, going, begin), (clone, taking, commit))?;
+        Ok(vec![in alloc;
+            Step::Writes(going),
+            Step::Writes(taking),
+            Step::Erases(erasure),
+        ]?)
     }
 }
 
@@ -83,13 +99,18 @@ impl SnapshotAsk {
     ghost use Rattle.md_chain.specs.Packing.{FitsPage};
     ghost use Rattle.job_begins.specs.Snapshots.{AreSnapshotDrafts};
 
-    /// The drafts of what is asked for.
-    pub(crate) fn drafts(self, alloc: Global) -> Result<SnapshotDrafts, Memory>
+    /// The replacements that do so, with what the first and the commit do besides.
+    pub(crate) fn steps(
+        self,
+        alloc: Global,
+        begin: Effects,
+        commit: Effects,
+    ) -> Result<Vec<Step>, Memory>
         requires begun { All FitsPage self.begun.xattrs × All FitsPage self.begun.internal }
         requires filled { All FitsPage self.filled.xattrs × All FitsPage self.filled.internal }
         requires emptied { All FitsPage self.emptied.xattrs × All FitsPage self.emptied.internal }
         requires made { All FitsPage self.made.xattrs × All FitsPage self.made.internal }
-        ensures { IfOk result (AreSnapshotDrafts self) }
+        ensures { IfOk result (λ steps. AreSnapshotDrafts self begin commit steps.items) }
     {
         let SnapshotAsk {
             head,
@@ -99,14 +120,16 @@ impl SnapshotAsk {
             emptied,
             made,
         } = self;
-        let (begun, filled) = Draft::two(alloc, (head, begun), (head, filled))?;
-        let (emptied, made) = Draft::two(alloc, (of, emptied), (head, made))?;
-        Ok(SnapshotDrafts {
-            begun,
-            filled,
-            emptied,
-            made,
-        })
+        let fill = nothing_besides(alloc);
+        let finish = nothing_besides(alloc);
+        let (begun, filled) = Draft::two(alloc, (head, begun, begin), (head, filled, fill))?;
+        let (emptied, made) = Draft::two(alloc, (of, emptied, commit), (head, made, finish))?;
+        Ok(vec![in alloc;
+            Step::Writes(begun),
+            Step::Writes(filled),
+            Step::Writes(emptied),
+            Step::Writes(made),
+        ]?)
     }
 }
 

@@ -6,9 +6,9 @@ ghost use Rattle.std.specs.Prelude.{OnErr};
 ghost use Rattle.std.specs.FinMap as map;
 ghost use Rattle.blob_meta.specs.Faults.{clusters_held};
 ghost use Rattle.job_begins.specs.Alone.{AreChained, HaveRoom};
-ghost use Rattle.job_begins.specs.Begins.{with_begun, HasChain};
+ghost use Rattle.job_begins.specs.Begins.{with_begun};
 ghost use Rattle.job_begins.specs.JobBegins.{CanBegin};
-ghost use Rattle.job_begins.specs.Deletions.{AreDeletionEffects, AreDeletionParts, AsksToDelete};
+ghost use Rattle.job_begins.specs.Deletions.{AreDeletionEffects, AreDeletionSteps, AsksToDelete};
 ghost use Rattle.md_chain.specs.Chain.{is_among};
 ghost use Rattle.md_chain.specs.Packing.{FitsPage};
 ghost use Rattle.running_store.specs.Blobs.{blobs_of, WillBeKept};
@@ -20,8 +20,8 @@ ghost use Rattle.store_model.specs.Cases.{Begins, IsRefusedAtBegin};
 
 use crate::alone::{add_clusters, clusters_beside, missing};
 use crate::asking::DeletionAsk;
-use crate::deletion_parts::{DeletionEffects, DeletionParts};
-use crate::preparing::places_behind;
+use crate::besides::{committing, in_rooms};
+use crate::steps::Step;
 use crate::taking::job_on_pages;
 use out_of_memory::Memory;
 use page_disk::PageDisk;
@@ -31,15 +31,18 @@ use volume_model::{PlaceList, Reply};
 /// What a delete's replacements do besides: the blob has room among the marked ones, with the commit it is gone and
 /// its clone gets a new generation, and its clusters that neither its clone nor another blob has are freed at last.
 /// (Want of memory too if no generation is left.)
-fn effects_of<D>(running: &Running<D>, ask: &DeletionAsk) -> Result<DeletionEffects, Memory>
+fn effects_of<D>(
+    running: &Running<D>,
+    ask: &DeletionAsk,
+) -> Result<(Effects, Effects, PlaceList), Memory>
     requires room { HaveRoom (base_of running.now.metas running.now.marked) (length running.now.clusters.bits) }
     requires chained { AreChained (base_of running.now.metas running.now.marked) (map.get running.now.chains) }
     requires taking { (c : ℕ) → is_among c (clusters_held ask.now.taking.map) ≡ true
         → c < length running.now.clusters.bits }
     requires going { (c : ℕ) → is_among c (clusters_held ask.now.going.map) ≡ true
         → c < length running.now.clusters.bits }
-    ensures are { IfOk result (AreDeletionEffects running.now.sup.md_len (blobs_of running.now)
-        (length running.now.clusters.bits) ask.now) }
+    ensures are { IfOk result (λ all. AreDeletionEffects running.now.sup.md_len (blobs_of running.now)
+        (length running.now.clusters.bits) ask.now all.0 all.1 all.2) }
     ensures numbers { IfOk result (λ _. running.now.guards.drawn < 2 ^ 64 - 1) }
 {
     let alloc = running.alloc;
@@ -51,48 +54,29 @@ fn effects_of<D>(running: &Running<D>, ask: &DeletionAsk) -> Result<DeletionEffe
     let mut beside = clusters_beside(running, ask.of)?;
     add_clusters(&mut beside, &ask.taking.map);
     let freed = missing(alloc, &mut beside, &ask.going.map)?;
-    let begin = Effects {
-        commit: None,
-        freed: PlaceList::new(alloc),
-        claimed: PlaceList::new(alloc),
-        rooms: Rooms {
-            chain: None,
-            meta: room,
-        },
+    let rooms = Rooms {
+        chain: None,
+        meta: room,
     };
-    let commit = Effects {
-        commit: Some(Commit {
-            made: None,
-            live: Some(EntryChange {
-                head: ask.of,
-                value: None,
-                room: None,
-            }),
-            renews: PlaceList::from_vec(renews),
-            shows: Some(EntryChange {
-                head: ask.of,
-                value: None,
-                room: None,
-            }),
+    let commit = Commit {
+        made: None,
+        live: Some(EntryChange {
+            head: ask.of,
+            value: None,
+            room: None,
         }),
-        freed: PlaceList::new(alloc),
-        claimed: PlaceList::new(alloc),
-        rooms: Rooms {
-            chain: None,
-            meta: None,
-        },
+        renews: PlaceList::from_vec(renews),
+        shows: Some(EntryChange {
+            head: ask.of,
+            value: None,
+            room: None,
+        }),
     };
-    Ok(DeletionEffects {
-        begin,
-        commit,
-        freed,
-    })
+    Ok((in_rooms(alloc, rooms), committing(alloc, commit), freed))
 }
 
-/// The parts of the job of a delete.
-fn parts_of<D>(running: &Running<D>, ask: DeletionAsk) -> Result<DeletionParts, Memory>
-    requires chain { HasChain running.now.chains ask.of }
-    requires chain_of_clone { HasChain running.now.chains ask.clone }
+/// The replacements of a delete's job.
+fn steps_of<D>(running: &Running<D>, ask: DeletionAsk) -> Result<Vec<Step>, Memory>
     requires room { HaveRoom (base_of running.now.metas running.now.marked) (length running.now.clusters.bits) }
     requires chained { AreChained (base_of running.now.metas running.now.marked) (map.get running.now.chains) }
     requires taking_low { (c : ℕ) → is_among c (clusters_held ask.taking.map) ≡ true
@@ -101,19 +85,11 @@ fn parts_of<D>(running: &Running<D>, ask: DeletionAsk) -> Result<DeletionParts, 
         → c < length running.now.clusters.bits }
     requires going { All FitsPage ask.going.xattrs × All FitsPage ask.going.internal }
     requires taking { All FitsPage ask.taking.xattrs × All FitsPage ask.taking.internal }
-    ensures { IfOk result (AreDeletionParts running.now.sup.md_len (blobs_of running.now)
-        (length running.now.clusters.bits) ask) }
+    ensures { IfOk result (λ steps. AreDeletionSteps running.now.sup.md_len (blobs_of running.now)
+        (length running.now.clusters.bits) ask steps.items) }
 {
-    let besides = effects_of(running, &ask)?;
-    let old = places_behind(running.alloc, &running.chains, ask.of)?;
-    let old_of_clone = places_behind(running.alloc, &running.chains, ask.clone)?;
-    let drafts = ask.drafts(running.alloc)?;
-    Ok(DeletionParts {
-        besides,
-        old,
-        old_of_clone,
-        drafts,
-    })
+    let (begin, commit, freed) = effects_of(running, &ask)?;
+    ask.steps(running.alloc, begin, commit, freed)
 }
 
 /// The job of a delete of a blob with one clone, for the posted command of a channel, once its pages are taken. `Err`
@@ -138,6 +114,13 @@ pub(crate) fn deletion_job<D: PageDisk>(
     ensures rows { running.new.rows ≡ running.old.rows }
     ensures order { InOrder D.PageDisk running.new }
 {
-    let parts = parts_of(running, ask)?;
-    job_on_pages(running.alloc, &mut running.pages, parts, channel)
+    let steps = steps_of(running, ask)?;
+    job_on_pages(
+        running.alloc,
+        &running.chains,
+        &mut running.pages,
+        steps,
+        channel,
+        None,
+    )
 }

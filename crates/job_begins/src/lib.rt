@@ -4,8 +4,8 @@
 mod alone;
 mod asking;
 mod begin;
+mod besides;
 mod deleting;
-mod deletion_parts;
 mod drafts;
 mod erasing;
 mod filling;
@@ -13,8 +13,8 @@ mod inserting;
 mod preparing;
 mod repairing;
 mod single_jobs;
-mod snapshot_parts;
 mod snapshotting;
+mod steps;
 mod taking;
 
 pub use alone::add_clusters;

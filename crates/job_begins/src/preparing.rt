@@ -156,7 +156,7 @@ fn take_chain(
     ensures unclaimed { pages.new.claims ≡ [] }
 {
     let taken = take_places(alloc, pages, pages_needed(items, makes))?;
-    let fresh = behind_head(&taken, makes);
+    let fresh = behind_head(taken.as_slice(), makes);
     match lay(alloc, items, head, fresh) {
         Ok(laid) => Ok(laid),
         Err(Memory) => {
@@ -167,15 +167,11 @@ fn take_chain(
 }
 
 /// Of places that are taken for a chain, those behind its head: all, but for the first where the blob is new.
-fn behind_head(taken: &PlaceList, makes: bool) -> &[u32]
+pub(crate) fn behind_head(taken: &[u32], makes: bool) -> &[u32]
     requires { makes ≡ true → 0 < length taken.now }
     ensures { result.now ≡ behind_in makes taken.now }
 {
-    if makes {
-        &taken.as_slice()[1..]
-    } else {
-        taken.as_slice()
-    }
+    if makes { &taken[1..] } else { taken }
 }
 
 /// The chain of a head and fresh places on which the items are written.

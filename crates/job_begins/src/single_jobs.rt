@@ -1,14 +1,11 @@
 //! Jobs of one replacement, made of what was prepared for it.
 
-ghost use Rattle.std.specs.Prelude.{◌≡◌};
-ghost use Rattle.job_begins.specs.Begins.{no_effects};
-
+use crate::besides::nothing_besides;
 use crate::preparing::{Laid, Prepared};
 use blob_meta::Meta;
-use running_store::{Effects, Planned, Rooms, RunningJob, Serves, Work, Zeroed};
+use running_store::{Effects, Planned, RunningJob, Serves, Work, Zeroed};
 use std::alloc::Global;
 use std::collections::VecDeque;
-use volume_model::PlaceList;
 
 impl Prepared {
     ghost use Rattle.std.specs.Prelude.{◌≡◌, ◌<◌, ◌∷◌, [], drop, false, IsSome, None};
@@ -106,20 +103,5 @@ impl Prepared {
             old,
             later: VecDeque::new(alloc),
         }
-    }
-}
-
-/// Nothing is done besides.
-pub(crate) fn nothing_besides(alloc: Global) -> Effects
-    ensures { result ≡ no_effects }
-{
-    Effects {
-        commit: None,
-        freed: PlaceList::new(alloc),
-        claimed: PlaceList::new(alloc),
-        rooms: Rooms {
-            chain: None,
-            meta: None,
-        },
     }
 }

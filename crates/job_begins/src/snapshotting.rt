@@ -3,9 +3,9 @@
 ghost use Rattle.std.specs.Prelude.{◌≡◌, ◌≢◌, ◌<◌, ◌+◌, ◌^◌, [], All, false, None, Some, IfErr, IfOk, OnErr};
 ghost use Rattle.std.specs.FinMap as map;
 ghost use Rattle.md_chain.specs.Packing.{FitsPage};
-ghost use Rattle.job_begins.specs.Begins.{with_begun, HasChain};
+ghost use Rattle.job_begins.specs.Begins.{with_begun};
 ghost use Rattle.job_begins.specs.JobBegins.{CanBegin};
-ghost use Rattle.job_begins.specs.Snapshots.{AreSnapshotEffects, AreSnapshotParts, AsksToSnapshot};
+ghost use Rattle.job_begins.specs.Snapshots.{AreSnapshotEffects, AreSnapshotSteps, AsksToSnapshot};
 ghost use Rattle.running_store.specs.Blobs.{blobs_of, WillBeKept};
 ghost use Rattle.running_store.specs.Jobs.{IsHeaded};
 ghost use Rattle.running_store.specs.Running.{view_of, InOrder};
@@ -14,19 +14,19 @@ ghost use Rattle.running_store.specs.StoreView.{state_of};
 ghost use Rattle.store_model.specs.Cases.{Begins, IsRefusedAtBegin};
 
 use crate::asking::SnapshotAsk;
-use crate::preparing::places_behind;
-use crate::snapshot_parts::{SnapshotEffects, SnapshotParts};
+use crate::besides::{committing, in_rooms};
+use crate::steps::Step;
 use crate::taking::job_on_pages;
 use out_of_memory::Memory;
 use page_disk::PageDisk;
 use running_store::{Commit, Effects, EntryChange, Rooms, Running, RunningJob, place};
 use volume_model::{PlaceList, Reply, TryCopy};
 
-/// What a snapshot's replacements do besides: the blob that is made has room in the maps of blobs and gets its first
+/// What a snapshot's begin and its commit do besides: the blob that is made has room in the maps of blobs and gets its first
 /// generation, and with the commit it is shown, with its attributes, and both blobs get new generations. (Want of
 /// memory too if too few generations are left.)
-fn effects_of<D>(running: &Running<D>, ask: &SnapshotAsk) -> Result<SnapshotEffects, Memory>
-    ensures are { IfOk result (AreSnapshotEffects (blobs_of running.now) ask.now) }
+fn effects_of<D>(running: &Running<D>, ask: &SnapshotAsk) -> Result<(Effects, Effects), Memory>
+    ensures are { IfOk result (λ both. AreSnapshotEffects (blobs_of running.now) ask.now both.0 both.1) }
     ensures room { IfOk result (λ _. map.len running.now.guards.generations < running.now.guards.room) }
     ensures numbers { IfOk result (λ _. running.now.guards.drawn + 3 < 2 ^ 64) }
 {
@@ -41,57 +41,37 @@ fn effects_of<D>(running: &Running<D>, ask: &SnapshotAsk) -> Result<SnapshotEffe
     let renews = vec![in alloc; ask.of, ask.head]?;
     let xattrs = ask.made.xattrs.try_copy(alloc)?;
     let shown = ask.made.try_copy(alloc)?;
-    let begin = Effects {
-        commit: None,
-        freed: PlaceList::new(alloc),
-        claimed: PlaceList::new(alloc),
-        rooms: Rooms {
-            chain: chain_room,
-            meta: mark_room,
-        },
+    let rooms = Rooms {
+        chain: chain_room,
+        meta: mark_room,
     };
-    let commit = Effects {
-        commit: Some(Commit {
-            made: Some(ask.head),
-            live: Some(EntryChange {
-                head: ask.head,
-                value: Some(xattrs),
-                room: live_room,
-            }),
-            renews: PlaceList::from_vec(renews),
-            shows: Some(EntryChange {
-                head: ask.head,
-                value: Some(shown),
-                room: shown_room,
-            }),
+    let commit = Commit {
+        made: Some(ask.head),
+        live: Some(EntryChange {
+            head: ask.head,
+            value: Some(xattrs),
+            room: live_room,
         }),
-        freed: PlaceList::new(alloc),
-        claimed: PlaceList::new(alloc),
-        rooms: Rooms {
-            chain: None,
-            meta: None,
-        },
+        renews: PlaceList::from_vec(renews),
+        shows: Some(EntryChange {
+            head: ask.head,
+            value: Some(shown),
+            room: shown_room,
+        }),
     };
-    Ok(SnapshotEffects { begin, commit })
+    Ok((in_rooms(alloc, rooms), committing(alloc, commit)))
 }
 
-/// The parts of a snapshot's job.
-fn parts_of<D>(running: &Running<D>, ask: SnapshotAsk) -> Result<SnapshotParts, Memory>
-    requires chain { HasChain running.now.chains ask.of }
+/// The replacements of a snapshot's job.
+fn steps_of<D>(running: &Running<D>, ask: SnapshotAsk) -> Result<Vec<Step>, Memory>
     requires begun { All FitsPage ask.begun.xattrs × All FitsPage ask.begun.internal }
     requires filled { All FitsPage ask.filled.xattrs × All FitsPage ask.filled.internal }
     requires emptied { All FitsPage ask.emptied.xattrs × All FitsPage ask.emptied.internal }
     requires made { All FitsPage ask.made.xattrs × All FitsPage ask.made.internal }
-    ensures { IfOk result (AreSnapshotParts (blobs_of running.now) ask) }
+    ensures { IfOk result (λ steps. AreSnapshotSteps (blobs_of running.now) ask steps.items) }
 {
-    let besides = effects_of(running, &ask)?;
-    let old = places_behind(running.alloc, &running.chains, ask.of)?;
-    let drafts = ask.drafts(running.alloc)?;
-    Ok(SnapshotParts {
-        besides,
-        old,
-        drafts,
-    })
+    let (begin, commit) = effects_of(running, &ask)?;
+    ask.steps(running.alloc, begin, commit)
 }
 
 /// The job of a snapshot, for the posted command of a channel, once its pages are taken and the volume is frozen. `Err`
@@ -117,8 +97,15 @@ pub(crate) fn snapshot_job<D: PageDisk>(
     ensures order { InOrder D.PageDisk running.new }
 {
     let of = ask.of;
-    let parts = parts_of(running, ask)?;
-    let job = job_on_pages(running.alloc, &mut running.pages, parts, channel)?;
+    let steps = steps_of(running, ask)?;
+    let job = job_on_pages(
+        running.alloc,
+        &running.chains,
+        &mut running.pages,
+        steps,
+        channel,
+        Some(of),
+    )?;
     running.guards.freeze(of);
     Ok(job)
 }

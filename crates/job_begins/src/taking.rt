@@ -1,61 +1,43 @@
 //! The pages of a job, taken at once, and the job that is laid on them.
 
-ghost use Rattle.std.specs.Prelude.{◌≡◌, [], IfErr, IfOk, OnErr};
-ghost use Rattle.job_begins.specs.JobPages.{ArePagesTaken, IsOnPages, IsShort};
+ghost use Rattle.std.specs.Prelude.{◌≡◌, ◌<◌, [], length, false, Some, IfErr, IfOk, OnErr};
+ghost use Rattle.std.specs.FinMap as map;
+ghost use Rattle.std.specs.List.{AllByRecursion};
+ghost use Rattle.job_begins.specs.JobPages.{ArePagesTaken, IsShort};
+ghost use Rattle.job_begins.specs.JobSteps.{needs_together, AreLaidOn, IsJobOn, IsStep, IsStepFor};
+ghost use Rattle.running_store.specs.Jobs.{job_left, job_seen, phases_in, to_come, IsHeaded};
+ghost use Rattle.running_store.specs.declared.job.Serves.TheVariants as whom;
 
+use crate::steps::{Step, lay_all, pages_within};
+use blob_meta::Chains;
 use out_of_memory::Memory;
 use pools::PagePool;
-use running_store::{RunningJob, clear_places, take_places};
+use running_store::{RunningJob, Serves, clear_places, take_places};
 use std::alloc::Global;
+use std::collections::VecDeque;
 use volume_model::{PlaceList, Reply};
 
-/// What a job is made of, but for its pages.
-pub(crate) trait JobParts: Sized {
-    ghost use Rattle.std.specs.Prelude.{◌≡◌, ℕ, Bool, List, IfOk};
-    ghost use Rattle.job_begins.specs.JobPages.{ArePagesTaken};
-    ghost use Rattle.running_store.specs.declared.job.RunningJob.{RunningJob};
-
-    /// That drafts of its metadata are made, which can be laid on pages.
-    ghost is_drafted: { Self → Type 0 };
-
-    /// That the head of the blob that it makes, if it makes one, is the first of these pages that is clear.
-    ghost heads_in: { Self → List Bool → Type 0 };
-
-    /// How many pages it takes.
-    ghost page_count: { Self → ℕ };
-
-    /// That the job of a channel's command is laid on these pages.
-    ghost is_laid: { Self → ℕ → List ℕ → RunningJob → Type 0 };
-
-    /// How many pages it takes.
-    fn needs(&self) -> u64
-        requires { is_drafted self.now }
-        ensures { result ≡ page_count self.now };
-
-    /// The job on these pages, which are taken for it.
-    fn lay(self, alloc: Global, channel: u8, taken: &[u32]) -> Result<RunningJob, Memory>
-        requires drafted { is_drafted self }
-        requires taken { (old new : List Bool) × heads_in self old × ArePagesTaken (page_count self) old new taken.now }
-        ensures { IfOk result (is_laid self channel taken.now) };
-}
-
-/// The job that is made of these parts, once its pages are taken. `Err` says what it lacks, and nothing is taken then.
-pub(crate) fn job_on_pages<P: JobParts + Drop>(
+/// The job of a channel's command that makes these replacements and freezes this blob, once its pages are taken. `Err`
+/// says what it lacks, and nothing is taken then.
+pub(crate) fn job_on_pages(
     alloc: Global,
+    chains: &Chains,
     pages: &mut PagePool,
-    parts: P,
+    steps: Vec<Step>,
     channel: u8,
+    freeze: Option<u32>,
 ) -> Result<RunningJob, Reply>
-    requires drafted { P.is_drafted parts }
-    requires heads { P.heads_in parts pages.old.bits }
+    requires some { 0 < length steps.items }
+    requires steps { AllByRecursion (IsStepFor (whom.Command channel freeze)) steps.items }
     requires unclaimed { pages.old.claims ≡ [] }
-    ensures job { IfOk result (IsOnPages (P.page_count parts) (P.is_laid parts channel) pages.old.bits pages.new.bits) }
-    ensures lack { IfErr result (IsShort (P.page_count parts) pages.old.bits) }
+    ensures job { IfOk result
+        (IsJobOn (map.get chains.now) steps.items (whom.Command channel freeze) pages.old.bits pages.new.bits) }
+    ensures lack { IfErr result (IsShort (needs_together steps.items) pages.old.bits) }
     ensures same { OnErr result (pages.new ≡ pages.old) }
     ensures unclaimed { pages.new.claims ≡ [] }
 {
-    let taken = take_pages(alloc, pages, parts.needs())?;
-    match parts.lay(alloc, channel, taken.as_slice()) {
+    let taken = take_pages(alloc, pages, steps.as_slice())?;
+    match lay_job(alloc, chains, steps, taken.as_slice(), channel, freeze) {
         Ok(job) => Ok(job),
         Err(Memory) => {
             clear_places(pages, &taken);
@@ -64,16 +46,44 @@ pub(crate) fn job_on_pages<P: JobParts + Drop>(
     }
 }
 
-/// Takes so many pages, the least clear ones: `NoPage` where fewer are clear, and else `Memory`; none is taken then.
-fn take_pages(alloc: Global, pages: &mut PagePool, count: u64) -> Result<PlaceList, Reply>
+/// Takes the pages of these replacements, the least clear ones: `NoPage` where fewer are clear, and else `Memory`; none
+/// is taken then.
+fn take_pages(alloc: Global, pages: &mut PagePool, steps: &[Step]) -> Result<PlaceList, Reply>
+    requires steps { AllByRecursion IsStep steps.now }
     requires unclaimed { pages.old.claims ≡ [] }
-    ensures taken { IfOk result (ArePagesTaken count pages.old.bits pages.new.bits) }
-    ensures lack { IfErr result (IsShort count pages.old.bits) }
+    ensures taken { IfOk result (ArePagesTaken (needs_together steps.now) pages.old.bits pages.new.bits) }
+    ensures lack { IfErr result (IsShort (needs_together steps.now) pages.old.bits) }
     ensures same { OnErr result (pages.new ≡ pages.old) }
     ensures unclaimed { pages.new.claims ≡ [] }
 {
-    if u64::from(pages.clear_count()) < count {
+    let Some(count) = pages_within(steps, pages.clear_count()) else {
         return Err(Reply::NoPage);
-    }
-    Ok(take_places(alloc, pages, count as u32)?)
+    };
+    Ok(take_places(alloc, pages, count)?)
+}
+
+/// The job of these replacements, on these pages.
+fn lay_job(
+    alloc: Global,
+    chains: &Chains,
+    steps: Vec<Step>,
+    taken: &[u32],
+    channel: u8,
+    freeze: Option<u32>,
+) -> Result<RunningJob, Memory>
+    requires some { 0 < length steps.items }
+    requires steps { AllByRecursion (IsStepFor (whom.Command channel freeze)) steps.items }
+    requires places { length taken.now ≡ needs_together steps.items }
+    ensures laid { IfOk result (λ job. AreLaidOn (map.get chains.now) steps.items taken.now (to_come job)) }
+    ensures seen { IfOk result
+        (λ job. Some (job_seen job) ≡ job_left (whom.Command channel freeze) (phases_in (to_come job))) }
+    ensures headed { IfOk result IsHeaded }
+    ensures unmarked { IfOk result (λ job. job.marks ≡ false) }
+{
+    let laid = lay_all(alloc, chains, VecDeque::from_vec(steps), taken)?;
+    let serves = Serves::Command { channel, freeze };
+    let Some(job) = RunningJob::next(serves, VecDeque::from_vec(laid)) else {
+        unreachable!()
+    };
+    Ok(job)
 }

@@ -1,115 +1,83 @@
-use Rattle.std.proofs.Common.{◌<◌, length, refl, ap, arith}
-use Rattle.std.specs.Option.{option_map}
+use Rattle.std.proofs.Common.{◌<◌, List, length, sym, arith, subst}
 use Rattle.std.proofs.lemmas.Result.{IfErr-weaker, IfOk-weaker}
 use Rattle.volume_model.specs.declared.reply.Reply.{Reply}
+use Rattle.volume_model.specs.declared.reply.Reply.TheVariants.{Memory}
 use Rattle.store_model.specs.Cases.{IsRefusedAtBegin}
-use Rattle.running_store.specs.Jobs.{job_seen}
-use Rattle.running_store.specs.declared.effects.Effects.{Effects}
 use Rattle.running_store.specs.Running.{view_of}
 use Rattle.running_store.specs.Steps.{Asks}
 use Rattle.running_store.specs.StoreView.{state_of}
-use Rattle.job_begins.proofs.DeletionAsked.{chain_of, chain_of_clone, going_low, going_stored, taking_low}
-use Rattle.job_begins.proofs.DeletionAsked.{taking_stored}
-use Rattle.job_begins.proofs.DeletionBegins.{asked_at, begins_deletion, for_memory, for_short, keeps_deletion}
+use Rattle.job_begins.specs.declared.steps.Step.{Step}
+use Rattle.job_begins.proofs.BeginKnown.{of_posted}
+use Rattle.job_begins.proofs.DeletionAsked.{going_low, going_stored, taking_low, taking_stored}
+use Rattle.job_begins.proofs.DeletionBegins.{begins_deletion, keeps_deletion}
+use Rattle.job_begins.proofs.DeletionSteps.{for_command, it, lacks_memory, short}
 use Rattle.job_begins.proofs.JobPlanned.{both_fit}
 use Rattle.job_begins.proofs.RepairBegins.{chained, room}
 use Rattle.job_begins.proofs.PassedOn.{passed_on}
 use Rattle.job_begins.proofs.deleting.deletion_job.Goals as goal
 
-pub parts_of-requires-clause-chain : goal.parts_of-requires-clause-chain
-parts_of-requires-clause-chain g c =
-    chain_of c.requires.can.running c.requires.can.unmarked c.requires.can.runs
-    (asked_at g.D.PageDisk c.requires.can.posted c.requires.asks)
-
-pub parts_of-requires-clause-chain_of_clone : goal.parts_of-requires-clause-chain_of_clone
-parts_of-requires-clause-chain_of_clone g c =
-    chain_of_clone c.requires.can.running c.requires.can.unmarked c.requires.can.runs
-    (asked_at g.D.PageDisk c.requires.can.posted c.requires.asks)
-
-pub parts_of-requires-clause-room : goal.parts_of-requires-clause-room
-parts_of-requires-clause-room g c =
+pub steps_of-requires-clause-room : goal.steps_of-requires-clause-room
+steps_of-requires-clause-room g c =
     room g.D.PageDisk (view_of c.args.running.now) c.requires.can.running c.requires.can.runs
 
-pub parts_of-requires-clause-chained : goal.parts_of-requires-clause-chained
-parts_of-requires-clause-chained g c =
+pub steps_of-requires-clause-chained : goal.steps_of-requires-clause-chained
+steps_of-requires-clause-chained g c =
     chained g.D.PageDisk (view_of c.args.running.now) c.requires.can.running c.requires.can.runs
 
-pub parts_of-requires-clause-taking_low : goal.parts_of-requires-clause-taking_low
-parts_of-requires-clause-taking_low g c =
-    taking_low c.requires.can.running c.requires.can.unmarked c.requires.can.runs
-    (asked_at g.D.PageDisk c.requires.can.posted c.requires.asks)
+pub steps_of-requires-clause-taking_low : goal.steps_of-requires-clause-taking_low
+steps_of-requires-clause-taking_low g c =
+    taking_low c.requires.can.running c.requires.can.unmarked c.requires.can.runs (it c.requires.can c.requires.asks)
 
-pub parts_of-requires-clause-going_low : goal.parts_of-requires-clause-going_low
-parts_of-requires-clause-going_low g c =
-    going_low c.requires.can.running c.requires.can.unmarked c.requires.can.runs
-    (asked_at g.D.PageDisk c.requires.can.posted c.requires.asks)
+pub steps_of-requires-clause-going_low : goal.steps_of-requires-clause-going_low
+steps_of-requires-clause-going_low g c =
+    going_low c.requires.can.running c.requires.can.unmarked c.requires.can.runs (it c.requires.can c.requires.asks)
 
-pub parts_of-requires-clause-going : goal.parts_of-requires-clause-going
-parts_of-requires-clause-going g c =
-    let can = going_stored c.requires.can.running c.requires.can.unmarked c.requires.can.runs
-    (asked_at g.D.PageDisk c.requires.can.posted c.requires.asks) in
-    both_fit c.args.ask.going (can.xattrs, can.internal)
+pub steps_of-requires-clause-going : goal.steps_of-requires-clause-going
+steps_of-requires-clause-going g c =
+    let stored = going_stored c.requires.can.running c.requires.can.unmarked c.requires.can.runs
+    (it c.requires.can c.requires.asks) in
+    both_fit c.args.ask.going (stored.xattrs, stored.internal)
 
-pub parts_of-requires-clause-taking : goal.parts_of-requires-clause-taking
-parts_of-requires-clause-taking g c =
-    let can = taking_stored c.requires.can.running c.requires.can.unmarked c.requires.can.runs
-    (asked_at g.D.PageDisk c.requires.can.posted c.requires.asks) in
-    both_fit c.args.ask.taking (can.xattrs, can.internal)
+pub steps_of-requires-clause-taking : goal.steps_of-requires-clause-taking
+steps_of-requires-clause-taking g c =
+    let stored = taking_stored c.requires.can.running c.requires.can.unmarked c.requires.can.runs
+    (it c.requires.can c.requires.asks) in
+    both_fit c.args.ask.taking (stored.xattrs, stored.internal)
 
-pub job_on_pages-requires-clause-drafted : goal.job_on_pages-requires-clause-drafted
-job_on_pages-requires-clause-drafted g c =
-    let x = c.in_ok-parts.ensures in
-    record {
-      going = x.drafts.going.draft;
-      taking = x.drafts.taking.draft;
-      begin = ap (λ (e : Effects). e.freed) x.effects.begin;
-      commit = ap (λ (e : Effects). e.freed) x.effects.commit;
-      claims = ap (λ (e : Effects). e.claimed) x.effects.commit;
-      once = x.effects.once;
-    }
+pub job_on_pages-requires-clause-some : goal.job_on_pages-requires-clause-some
+job_on_pages-requires-clause-some g c =
+    subst (λ (l : List Step). 0 < length l) (sym c.in_ok-steps.ensures.drafts.steps_are) (omega arith)
+
+pub job_on_pages-requires-clause-steps : goal.job_on_pages-requires-clause-steps
+job_on_pages-requires-clause-steps g c =
+    for_command c.requires.can c.requires.asks c.in_ok-steps.steps.items c.in_ok-steps.ensures
 
 -- ---- what it lacks
 
-pub returns-in_err-parts-clause-lack : goal.returns-in_err-parts-clause-lack
-returns-in_err-parts-clause-lack g c =
-    let p = view_of c.args.running.now in
-    let refused = λ (reply : Reply). Asks p c.args.channel (λ k. IsRefusedAtBegin (state_of g.D.PageDisk p) k reply) in
-    passed_on c.from_residual.result c.from_residual.ensures.1 refused
-    (for_memory g.D.PageDisk p c.args.channel c.requires.can.running c.requires.can.unmarked
-    c.requires.can.runs (ap (λ o. option_map job_seen o) c.requires.can.no_job) c.args.ask c.requires.asks)
+pub returns-in_err-steps-clause-lack : goal.returns-in_err-steps-clause-lack
+returns-in_err-steps-clause-lack g c =
+    let s = state_of g.D.PageDisk (view_of c.args.running.now) in
+    passed_on c.from_residual.result c.from_residual.ensures.1
+    (λ (reply : Reply). Asks (view_of c.args.running.now) c.args.channel (λ command. IsRefusedAtBegin s command reply))
+    (of_posted c.requires.can (λ command. IsRefusedAtBegin s command Memory)
+    (lacks_memory c.requires.can c.requires.asks))
 
 pub returns-clause-lack : goal.returns-clause-lack
 returns-clause-lack g c =
-    IfErr-weaker c.job_on_pages.result _ _ (λ reply short. for_short g.D.PageDisk
-    (view_of c.args.running.now) c.args.channel c.requires.can.running c.requires.can.unmarked c.requires.can.runs
-    (ap (λ o. option_map job_seen o) c.requires.can.no_job) c.args.ask c.requires.asks c.in_ok-parts.parts.drafts
-    c.in_ok-parts.ensures.drafts reply short)
+    let s = state_of g.D.PageDisk (view_of c.args.running.now) in
+    IfErr-weaker c.job_on_pages.result _ _ (λ reply is.
+    of_posted c.requires.can (λ command. IsRefusedAtBegin s command reply)
+    (short c.requires.can c.requires.asks c.in_ok-steps.steps.items c.in_ok-steps.ensures reply is))
     c.job_on_pages.ensures.lack
 
 -- ---- it begins
 
 pub returns-clause-begins : goal.returns-clause-begins
 returns-clause-begins g c =
-    let d = g.D.PageDisk in
-    let p = view_of c.args.running.now in
-    let low : c.args.channel < length p.rows = omega (arith, c.requires.can.within, c.requires.can.order.seventeen) in
-    IfOk-weaker c.job_on_pages.result _ _ (λ job on. begins_deletion d p c.requires.can.running c.requires.can.unmarked
-    c.requires.can.runs (ap (λ o. option_map job_seen o) c.requires.can.no_job) c.requires.can.posted.waits.command
-    c.args.ask
-    (asked_at d c.requires.can.posted c.requires.asks) c.in_ok-parts.parts c.in_ok-parts.ensures
-    c.args.channel c.job_on_pages.new.pages.bits job on c.requires.can.posted refl c.requires.can.unfilled low)
-    c.job_on_pages.ensures.job
-
-pub returns-clause-headed : goal.returns-clause-headed
-returns-clause-headed g c =
-    IfOk-weaker c.job_on_pages.result _ _ (λ job on. on.laid.headed) c.job_on_pages.ensures.job
+    IfOk-weaker c.job_on_pages.result _ _ (λ job on. begins_deletion c.requires.can c.requires.asks
+    c.in_ok-steps.steps.items c.in_ok-steps.ensures c.job_on_pages.new.pages.bits job on) c.job_on_pages.ensures.job
 
 pub returns-clause-kept : goal.returns-clause-kept
 returns-clause-kept g c =
-    let d = g.D.PageDisk in
-    let p = view_of c.args.running.now in
-    IfOk-weaker c.job_on_pages.result _ _ (λ job on. keeps_deletion d p c.requires.can.running c.requires.can.unmarked
-    c.requires.can.runs (ap (λ o. option_map job_seen o) c.requires.can.no_job) c.requires.can.posted.waits.command
-    c.args.ask
-    (asked_at d c.requires.can.posted c.requires.asks) c.in_ok-parts.parts c.in_ok-parts.ensures
-    c.args.channel c.job_on_pages.new.pages.bits job on c.requires.can.order.resolves) c.job_on_pages.ensures.job
+    IfOk-weaker c.job_on_pages.result _ _ (λ job on. keeps_deletion c.requires.can c.requires.asks
+    c.in_ok-steps.steps.items c.in_ok-steps.ensures c.job_on_pages.new.pages.bits job on) c.job_on_pages.ensures.job

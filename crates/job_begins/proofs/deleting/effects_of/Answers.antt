@@ -1,9 +1,10 @@
-use Rattle.std.proofs.Common.{◌≡◌, ◌↔◌, ◌<◌, Bool, true, List, length, None, Some, sym, ap, subst, ◌∙◌, arith}
+use Rattle.std.proofs.Common.{◌≡◌, ◌↔◌, ◌<◌, ℕ, Bool, true, List, length, None, Some, sym, ap, subst, ◌∙◌, arith}
 use Rattle.std.proofs.lemmas.Bool.Decides.{nat_tests}
 use Rattle.blob_meta.specs.Faults.{clusters_held}
 use Rattle.md_chain.specs.Chain.{is_among}
 use Rattle.store_model.proofs.Sets.{length_all_set}
 use Rattle.job_begins.specs.Alone.{IsMissing}
+use Rattle.job_begins.specs.Begins.{no_effects}
 use Rattle.job_begins.proofs.deleting.effects_of.Goals as goal
 
 pub add_clusters-requires : goal.add_clusters-requires
@@ -25,23 +26,15 @@ returns-clause-are g c =
     record {
       mark_room = c.in_ok-room.room;
       mark = c.in_ok-room.ensures.place;
-      begin = λ i. record {
-        commit = None;
-        freed = c.new.ensures i;
-        claimed = c.new-2.ensures i;
-        rooms = record { chain = None; meta = c.in_ok-room.room };
-      };
-      commit = λ i. record {
+      begin_is = c.in_rooms.ensures;
+      commit_is = c.committing.ensures ∙ ap (λ (renews : List ℕ). record no_effects {
         commit = Some (record {
           made = None;
           live = Some (record { head = ask.of; value = None; room = None });
-          renews = (c.from_vec.ensures ∙ c.in_ok-renews.ensures.items) i;
+          renews = renews;
           shows = Some (record { head = ask.of; value = None; room = None });
         });
-        freed = c.new-3.ensures i;
-        claimed = c.new-4.ensures i;
-        rooms = record { chain = None; meta = None };
-      };
+      }) (c.from_vec.ensures ∙ c.in_ok-renews.ensures.items);
       beside = c.in_ok-beside.beside;
       count = c.in_ok-beside.ensures.count;
       beside_are = c.in_ok-beside.ensures.are;

@@ -22,9 +22,9 @@ returns-clause-memory c =
     c.clear_places.ensures.bits
 
 pub behind_head-fresh-requires : goal.behind_head-fresh-requires
-behind_head-fresh-requires c = some_taken c.args.makes (length c.in_ok-taken.taken)
+behind_head-fresh-requires c = rw c.as_slice.ensures (some_taken c.args.makes (length c.in_ok-taken.taken)
     (length (parts_of c.args.items.now)) (c.in_ok-taken.ensures.count ∙ c.pages_needed.ensures)
-    (some_parts 4072 c.args.items.now)
+    (some_parts 4072 c.args.items.now))
 
 pub returns-in-Ok-clause-taken : goal.returns-in-Ok-clause-taken
 returns-in-Ok-clause-taken c =
@@ -37,7 +37,7 @@ returns-in-Ok-clause-taken c =
     record {
       fresh = behind_in c.args.makes taken;
       laid_on = subst (λ (l : List ℕ). IsChainLaid c.args.items.now c.args.head l c.in-Ok.laid)
-          c.behind_head-fresh.ensures c.in-Ok.ensures;
+          (c.behind_head-fresh.ensures ∙ ap (behind_in c.args.makes) c.as_slice.ensures) c.in-Ok.ensures;
       count = behind_long c.args.makes taken (length (parts_of c.args.items.now)) long some;
       least = subst (AreLeastClear bits) is c.in_ok-taken.ensures.least;
       taken = c.in_ok-taken.ensures.bits ∙ ap (λ l. all_set bits l true) is;

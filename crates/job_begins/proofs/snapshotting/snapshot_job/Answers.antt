@@ -1,8 +1,8 @@
-use Rattle.std.proofs.Common.{sym, ap, subst}
+use Rattle.std.proofs.Common.{◌<◌, List, length, sym, arith, subst}
 use Rattle.std.proofs.Common.{Some}
 use Rattle.std.specs.Prelude.{slice_set}
-use Rattle.std.specs.Option.{option_map}
 use Rattle.volume_model.specs.declared.reply.Reply.{Reply}
+use Rattle.volume_model.specs.declared.reply.Reply.TheVariants as r
 use Rattle.io_freeze.specs.Guards.{GuardsState}
 use Rattle.store_model.specs.StoreState.{marked}
 use Rattle.store_model.specs.Cases.{Begins, IsRefusedAtBegin}
@@ -12,51 +12,47 @@ use Rattle.running_store.specs.Jobs.{job_seen, to_come}
 use Rattle.running_store.specs.Running.{view_of}
 use Rattle.running_store.specs.Steps.{Asks}
 use Rattle.running_store.specs.StoreView.{rows_of, state_of}
-use Rattle.job_begins.specs.Begins.{IsFreshHead}
+use Rattle.job_begins.specs.declared.steps.Step.{Step}
+use Rattle.job_begins.proofs.BeginKnown.{of_posted}
 use Rattle.job_begins.proofs.JobPlanned.{both_fit}
-use Rattle.job_begins.proofs.SnapshotBegins.{snapshot_begins_so, snapshot_headed, snapshot_kept_so}
-use Rattle.job_begins.proofs.SnapshotKnown.{known, next_head, numbered}
-use Rattle.job_begins.proofs.SnapshotLacks.{snapshot_memory, snapshot_short}
 use Rattle.job_begins.proofs.PassedOn.{passed_on}
+use Rattle.job_begins.proofs.SnapshotBegins.{snapshot_begins_so, snapshot_kept_so}
+use Rattle.job_begins.proofs.SnapshotKnown.{known, numbered, snapshot_memory}
+use Rattle.job_begins.proofs.SnapshotSteps.{for_command, short}
 use Rattle.job_begins.proofs.snapshotting.snapshot_job.Goals as goal
 
-pub parts_of-requires-clause-chain : goal.parts_of-requires-clause-chain
-parts_of-requires-clause-chain g c =
-    (known c.requires.can c.requires.asks).chain
-
-pub parts_of-requires-clause-begun : goal.parts_of-requires-clause-begun
-parts_of-requires-clause-begun g c =
+pub steps_of-requires-clause-begun : goal.steps_of-requires-clause-begun
+steps_of-requires-clause-begun g c =
     both_fit c.args.ask.begun (known c.requires.can c.requires.asks).begun_can
 
-pub parts_of-requires-clause-filled : goal.parts_of-requires-clause-filled
-parts_of-requires-clause-filled g c =
+pub steps_of-requires-clause-filled : goal.steps_of-requires-clause-filled
+steps_of-requires-clause-filled g c =
     both_fit c.args.ask.filled (known c.requires.can c.requires.asks).filled_can
 
-pub parts_of-requires-clause-emptied : goal.parts_of-requires-clause-emptied
-parts_of-requires-clause-emptied g c =
+pub steps_of-requires-clause-emptied : goal.steps_of-requires-clause-emptied
+steps_of-requires-clause-emptied g c =
     both_fit c.args.ask.emptied (known c.requires.can c.requires.asks).emptied_can
 
-pub parts_of-requires-clause-made : goal.parts_of-requires-clause-made
-parts_of-requires-clause-made g c =
+pub steps_of-requires-clause-made : goal.steps_of-requires-clause-made
+steps_of-requires-clause-made g c =
     both_fit c.args.ask.made (known c.requires.can c.requires.asks).made_can
 
-pub returns-in_err-parts-clause-lack : goal.returns-in_err-parts-clause-lack
-returns-in_err-parts-clause-lack g c =
+pub returns-in_err-steps-clause-lack : goal.returns-in_err-steps-clause-lack
+returns-in_err-steps-clause-lack g c =
     let s = state_of g.D.PageDisk (view_of c.args.running.now) in
     let refused = λ (reply : Reply). Asks (view_of c.args.running.now) c.args.channel
     (λ command. IsRefusedAtBegin s command reply) in
     passed_on c.from_residual.result c.from_residual.ensures.1 refused
-    (λ command rest left. snapshot_memory s command c.args.ask (c.requires.asks command rest left))
+    (of_posted c.requires.can (λ command. IsRefusedAtBegin s command r.Memory)
+    (snapshot_memory c.requires.can c.requires.asks))
 
-pub job_on_pages-requires-clause-heads : goal.job_on_pages-requires-clause-heads
-job_on_pages-requires-clause-heads g c =
-    subst (IsFreshHead c.args.running.now.pages.bits) (sym c.in_ok-parts.ensures.drafts.begun.head_is)
-    (next_head c.requires.can c.requires.asks)
+pub job_on_pages-requires-clause-some : goal.job_on_pages-requires-clause-some
+job_on_pages-requires-clause-some g c =
+    subst (λ (l : List Step). 0 < length l) (sym c.in_ok-steps.ensures.drafts.steps_are) (omega arith)
 
-pub job_on_pages-requires-clause-drafted : goal.job_on_pages-requires-clause-drafted
-job_on_pages-requires-clause-drafted g c =
-    let x = c.in_ok-parts.ensures.drafts in
-    record { begun = x.begun.draft; filled = x.filled.draft; emptied = x.emptied.draft; made = x.made.draft }
+pub job_on_pages-requires-clause-steps : goal.job_on_pages-requires-clause-steps
+job_on_pages-requires-clause-steps g c =
+    for_command c.requires.can c.requires.asks c.in_ok-steps.steps.items c.in_ok-steps.ensures
 
 pub freeze-requires : goal.freeze-requires
 freeze-requires g c =
@@ -72,22 +68,15 @@ returns-clause-begins g c =
       guards = y;
       pages = c.job_on_pages.new.pages.bits;
     }))) (sym c.freeze.ensures)
-    (snapshot_begins_so c.requires.can c.requires.asks c.in_ok-parts.parts
-    c.in_ok-parts.ensures c.job_on_pages.new.pages.bits c.in_ok-job.job c.in_ok-job.ensures.job)
-
-pub returns-clause-headed : goal.returns-clause-headed
-returns-clause-headed g c =
-    snapshot_headed c.requires.can c.requires.asks c.in_ok-parts.parts c.in_ok-parts.ensures
-    c.job_on_pages.new.pages.bits c.in_ok-job.job
-    c.in_ok-job.ensures.job
+    (snapshot_begins_so c.requires.can c.requires.asks c.in_ok-steps.steps.items c.in_ok-steps.ensures
+    c.job_on_pages.new.pages.bits c.in_ok-job.job c.in_ok-job.ensures.job)
 
 pub returns-clause-kept : goal.returns-clause-kept
 returns-clause-kept g c =
     subst (λ (y : GuardsState). CanAllBeKept (record (blobs_of c.args.running.now) { guards = y })
     (to_come c.in_ok-job.job)) (sym c.freeze.ensures)
-    (snapshot_kept_so c.requires.can c.requires.asks c.in_ok-parts.parts c.in_ok-parts.ensures
-    c.job_on_pages.new.pages.bits c.in_ok-job.job
-    c.in_ok-job.ensures.job)
+    (snapshot_kept_so c.requires.can c.requires.asks c.in_ok-steps.steps.items c.in_ok-steps.ensures
+    c.job_on_pages.new.pages.bits c.in_ok-job.job c.in_ok-job.ensures.job)
 
 pub returns-in_err-job-clause-lack : goal.returns-in_err-job-clause-lack
 returns-in_err-job-clause-lack g c =
@@ -95,6 +84,6 @@ returns-in_err-job-clause-lack g c =
     let refused = λ (reply : Reply). Asks (view_of c.args.running.now) c.args.channel
     (λ command. IsRefusedAtBegin s command reply) in
     passed_on c.from_residual-in_err-job.result c.from_residual-in_err-job.ensures.1 refused
-    (λ command rest left. snapshot_short s c.requires.can.running c.requires.can.unmarked c.requires.can.runs
-    (ap (λ o. option_map job_seen o) c.requires.can.no_job) command c.args.ask (c.requires.asks command rest left)
-    c.in_ok-parts.parts.drafts c.in_ok-parts.ensures.drafts c.in_err-job.field-0.0 c.in_err-job.ensures.lack)
+    (of_posted c.requires.can (λ command. IsRefusedAtBegin s command c.in_err-job.field-0.0)
+    (short c.requires.can c.requires.asks c.in_ok-steps.steps.items c.in_ok-steps.ensures c.in_err-job.field-0.0
+    c.in_err-job.ensures.lack))
