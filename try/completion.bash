@@ -33,10 +33,12 @@ _blobtool_look() {
     done
 }
 
-# Offers the options of the command that may still come: each at most once, and one of --schedule and --threads.
+# Offers the options of the command that may still come: each at most once, one of --schedule and --threads, and one of
+# --json and --tree.
 _blobtool_options() {
     local option left=
     [[ $present != *" --schedule "* && $present != *" --threads "* ]] || present+=" --schedule --threads "
+    [[ $present != *" --json "* && $present != *" --tree "* ]] || present+=" --json --tree "
     for option in $1 --help; do
         [[ $present == *" $option "* ]] || left+=" $option"
     done
@@ -53,7 +55,7 @@ _blobtool() {
     case ${COMP_WORDS[1]} in
         format) options="--cluster --md-pages --lvol --uuid --new" ;;
         run) options="--schedule --threads" ;;
-        list) options="--json" ;;
+        list) options="--json --tree" ;;
         exercise) ;;
         generate) images=0 ;;
         help)

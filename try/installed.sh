@@ -93,6 +93,7 @@ same "16384" "$(offered format --cluster = 16)" "the same behind ="
 same "--new" "$(offered format disk.img --n)" "an option behind the image"
 same "" "$(offered format --new disk.img --n)" "each option once"
 same "--help" "$(offered run disk.img --threads -)" "a run is by a schedule or by threads"
+same "--help" "$(offered list disk.img --json -)" "a listing is in JSON or a tree"
 same "" "$(offered generate '')$(offered exercise disk.img '')$(offered nothing '')" "nothing where nothing is known"
 
 cd "$top"

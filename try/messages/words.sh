@@ -30,6 +30,9 @@ both="--schedule and --threads are there, wanted one of them at most"
 says 1 "blobtool: run i: $both" run i --schedule 0 --threads
 says 1 "blobtool: run i: $both" run --threads i --schedule=x
 
+row "--json and --tree are there, wanted one of them at most"
+says 1 "blobtool: list i: --json and --tree are there, wanted one of them at most" list --tree i --json
+
 row "--lvol is there, wanted --uuid too; --uuid is there, wanted --lvol too"
 says 1 "blobtool: format i: --lvol is there, wanted --uuid too" format i --lvol a
 says 1 "blobtool: format i: --uuid is there, wanted --lvol too" format i --uuid $uuid

@@ -45,7 +45,7 @@ pub(crate) fn task_in(alloc: Global, words: &[String]) -> Result<Option<Task>, M
             None => Ok(None),
         },
         CommandWords::Format { options, .. } => Ok(of_options(&options).map(Task::Format)),
-        CommandWords::List { json, .. } => Ok(Some(Task::List(list_format(json)))),
+        CommandWords::List { json, tree, .. } => Ok(list_format(json, tree).map(Task::List)),
         CommandWords::Generate { number, size } => {
             Ok(generated_script(number, size).map(Task::Generate))
         }

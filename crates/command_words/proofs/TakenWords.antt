@@ -124,10 +124,11 @@ module _ (words : List Text) where
   list_taken : IsTaken words (leaf list_line)
   list_taken none =
       let rows = rows_after (leaf list_line).rules [] words in
-      is_some-map (λ image. list image (has_flag (codes "json") rows)) (first_of (codes "IMAGE") rows)
+      is_some-map (λ image. list image (has_flag (codes "json") rows) (has_flag (codes "tree") rows))
+      (first_of (codes "IMAGE") rows)
       ∙ image_given (leaf list_line) (
         takes_one refl refl,
-        (is_flag refl (codes "true") refl, (asks_help refl, tt)),
+        (is_flag refl (codes "true") refl, (is_flag refl (codes "true") refl, (asks_help refl, tt))),
       ) (λ r. refl) none
 
   generate_taken : IsTaken words (leaf generate_line)

@@ -37,7 +37,8 @@ format_line = record sized_format_line {
 }
 
 abbrev pub list_line : Shape
-list_line = subcommand (codes "list") (placed_rule (codes "IMAGE") ∷ flag (codes "json") ∷ [])
+list_line =
+    subcommand (codes "list") (placed_rule (codes "IMAGE") ∷ flag (codes "json") ∷ flag (codes "tree") ∷ [])
 
 -- and behind its own arguments the two numbers that say which script is drawn
 abbrev pub with_script : App → App

@@ -27,8 +27,8 @@ pub data Asked : Type 0 where
   run : Text → Option Text → Bool → Asked
   -- an image, and what the new store is to be like
   format : Text → FormatTexts → Asked
-  -- an image, and whether it is to be in JSON
-  list : Text → Bool → Asked
+  -- an image, and whether it is to be in JSON, and as a tree
+  list : Text → Bool → Bool → Asked
   -- a number and a size
   generate : Text → Text → Asked
   -- an image, a number and a size
@@ -56,7 +56,8 @@ format_by rows = option_map (λ image. format image (options_by rows)) (first_of
 
 abbrev pub list_by : List Row → Option Asked
 list_by rows =
-    option_map (λ image. list image (has_flag (codes "json") rows)) (first_of (codes "IMAGE") rows)
+    option_map (λ image. list image (has_flag (codes "json") rows) (has_flag (codes "tree") rows))
+    (first_of (codes "IMAGE") rows)
 
 abbrev pub generate_by : List Row → Option Asked
 generate_by rows =
@@ -109,6 +110,6 @@ texts_of options = record {
 abbrev pub as_read : CommandWords → Asked
 as_read (words.Run image schedule threads) = run image.now (option_copied schedule) threads
 as_read (words.Format image options) = format image.now (texts_of options)
-as_read (words.List image json) = list image.now json
+as_read (words.List image json tree) = list image.now json tree
 as_read (words.Generate number size) = generate number.now size.now
 as_read (words.Exercise image number size) = exercise image.now number.now size.now

@@ -129,12 +129,20 @@ fn list_line<'a>(alloc: Global) -> Result<Command<'a>, AllocError>
 {
     Command::new(alloc, "list")
         .about("Prints a store and its volumes, and writes nothing")
-        .after_help("Examples:{n}  blobtool list store.img{n}  blobtool list --json store.img")
+        .after_help(
+            "Examples:{n}  blobtool list store.img{n}  blobtool list --json store.img{n}  \
+             blobtool list --tree store.img",
+        )
         .arg(placed(alloc, "IMAGE", "The file that has the store"))?
         .arg(flag(
             alloc,
             "json",
             "Prints one line of JSON, an object, in place of a line for each volume",
+        ))?
+        .arg(flag(
+            alloc,
+            "tree",
+            "Prints the volumes alone, each below its parent; --json can't be there then",
         ))
 }
 

@@ -43,10 +43,11 @@ pub enum CommandWords<'a> {
         image: &'a str,
         options: FormatOptions<'a>,
     },
-    /// `list IMAGE`, and whether `--json` is there.
+    /// `list IMAGE`, and whether `--json` and `--tree` are there.
     List {
         image: &'a str,
         json: bool,
+        tree: bool,
     },
     /// `generate NUMBER SIZE`.
     Generate {
@@ -130,6 +131,7 @@ fn list_of<'a>(found: &ArgMatches<'a>) -> Option<CommandWords<'a>>
     Some(CommandWords::List {
         image,
         json: has_flag(found, "json"),
+        tree: has_flag(found, "tree"),
     })
 }
 

@@ -22,8 +22,11 @@ pub enum WordFault {
         list: String,
         at: u32,
     },
-    /// `--schedule` and `--threads` are there.
-    Both,
+    /// Two options are there that can't be together.
+    Both {
+        one: &'static str,
+        other: &'static str,
+    },
     /// An option is there without the other.
     Alone {
         name: &'static str,
@@ -58,8 +61,9 @@ impl Display for WordFault {
                      m, joined by +, with * and a count up to 65536, separated by commas, at most 65536 steps"
                 )
             }
-            WordFault::Both => f.write_str(
-                "--schedule and --threads are there, wanted one of them at most",
+            WordFault::Both { one, other } => write!(
+                f,
+                "{one} and {other} are there, wanted one of them at most"
             ),
             WordFault::Alone { name, wanted } => write!(f, "{name} is there, wanted {wanted} too"),
         }
@@ -165,7 +169,20 @@ pub fn word_fault(alloc: Global, words: &[String]) -> Result<Option<WordFault>, 
                 threads: true,
                 ..
             },
-        ) => Ok(Some(WordFault::Both)),
+        ) => Ok(Some(WordFault::Both {
+            one: "--schedule",
+            other: "--threads",
+        })),
+        Some(
+            CommandWords::List {
+                json: true,
+                tree: true,
+                ..
+            },
+        ) => Ok(Some(WordFault::Both {
+            one: "--json",
+            other: "--tree",
+        })),
         Some(
             CommandWords::Run {
                 schedule: Some(list),

@@ -1,12 +1,12 @@
 -- What is shown is ASCII, and so UTF-8.
 use Rattle.std.proofs.Common.{◌≡◌, ℕ, zero, suc, ◌/◌, ◌%◌, Bool, true, false, ◌&&◌, nat_lt, if◌then◌else◌}
-use Rattle.std.proofs.Common.{List, [], ◌∷◌, ◌++◌, length, refl, ap, IsUtf8, arith, ltb-true, inl, inr}
+use Rattle.std.proofs.Common.{List, [], ◌∷◌, ◌++◌, length, refl, IsUtf8, arith, inl, inr}
 use Rattle.std.specs.Prelude.{codes, slice_index, ◌==◌}
 use Rattle.std.specs.List.{flat_map}
 use Rattle.std.specs.Str.{bytes_eq}
 use Rattle.std.proofs.lemmas.Bool.{and_parts, cases_Bool}
 use Rattle.json.proofs.Printed.Utf8.{are_ascii, IsUtf8-are_ascii}
-use Rattle.blob_report.specs.Pieces.{hex_byte, hex_digit, is_plain, shown_byte, shown_bytes}
+use Rattle.blob_report.specs.Pieces.{hex_byte, is_plain, shown_byte, shown_bytes}
 
 ascii_at : (xs : List ℕ) (n : ℕ) → are_ascii xs ≡ true → nat_lt (slice_index xs n) 128 ≡ true
 ascii_at [] n ascii = refl

@@ -1,3 +1,4 @@
 pub mod Ascii
 pub mod Floats
+pub mod Steps
 pub mod Volumes

@@ -1,5 +1,5 @@
 -- A listing as one object of JSON, on one line. The members of an object stand in the order of their keys.
-use Rattle.std.specs.Prelude.{ℕ, List, [], Option, Some, None, ◌++◌, codes, map}
+use Rattle.std.specs.Prelude.{ℕ, List, Option, Some, None, ◌++◌, codes, map}
 use Rattle.serde_json.specs.Data.{Data, null, boolean, number, unsigned, string, array, object, member, no_members}
 use Rattle.serde_json.specs.View.{items_of}
 use Rattle.serde_json.specs.Written.{compact_text}

@@ -1,5 +1,5 @@
 -- What a listing says of a loaded store, value by value.
-use Rattle.std.specs.Prelude.{ℕ, ◌==◌, if◌then◌else◌, Bool, List, [], ◌∷◌, Option, None, is_some, length, count_by}
+use Rattle.std.specs.Prelude.{ℕ, ◌==◌, if◌then◌else◌, Bool, List, [], ◌∷◌, Option, is_some, length, count_by}
 use Rattle.std.specs.Prelude.{option_and_then, option_map}
 use Rattle.std.specs.List.{before_first, flat_map, range_with_len}
 use Rattle.std.specs.Option.{option_map_or}

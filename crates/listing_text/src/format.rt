@@ -6,6 +6,7 @@ ghost use Rattle.listing_text.specs.Formats.{listing_text};
 ghost use Rattle.listing_text.specs.declared.format.ListFormat.TheVariants.{Lines};
 
 use crate::objects::render_json;
+use crate::tree::render_tree;
 use blob_report::render_store;
 use out_of_memory::Memory;
 use running_store::Loaded;
@@ -18,6 +19,8 @@ pub enum ListFormat {
     Lines,
     /// One object of JSON, on a line.
     Json,
+    /// A line for each volume, below its parent's, as a tree in ASCII.
+    Tree,
 }
 
 /// A listing in lines.
@@ -42,5 +45,6 @@ pub fn render_listing<D>(
     match format {
         ListFormat::Lines => render_lines(alloc, loaded),
         ListFormat::Json => render_json(alloc, loaded),
+        ListFormat::Tree => render_tree(alloc, loaded),
     }
 }

@@ -17,7 +17,7 @@ fn words_of(alloc: Global, line: &str) -> Result<Vec<String>, Fail> {
     Ok(words)
 }
 
-static WORD_LINES: [(&str, &str); 11] = [
+static WORD_LINES: [(&str, &str); 12] = [
     (
         "format a.img --cluster 5000",
         "--cluster is '5000', wanted a multiple of 4096, from 4096 to 4294963200",
@@ -50,6 +50,10 @@ static WORD_LINES: [(&str, &str); 11] = [
     (
         "run a.img --threads --schedule 0",
         "--schedule and --threads are there, wanted one of them at most",
+    ),
+    (
+        "list a.img --tree --json",
+        "--json and --tree are there, wanted one of them at most",
     ),
     ("generate -1 10", ""),
     (

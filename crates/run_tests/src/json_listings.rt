@@ -1,11 +1,8 @@
 //! Stores and their volumes, as they are listed in JSON.
 
-use crate::formats::expect_new_store;
-use crate::listed::{JSON, expect_printed};
-use page_disk::MemDisk;
-use std::alloc::Global;
+use crate::listed::{JSON, expect_printed, ran};
 use std::test::Fail;
-use test_runs::{Call, expect_end, run};
+use test_runs::{Call, expect_end};
 use test_stores::{LAST, NAMED, PageRow, THICK, THIN, image_with_super, store};
 
 /// A script that is run on a new store, and what is listed behind it.
@@ -32,12 +29,6 @@ static CASES: [(&[u8], &[u8]); 3] = [
             \"uuid\":\"0f443162-a7b1-54c6-977f-cca1b1a128bb\"}]}\n",
     ),
 ];
-
-/// The device of a new store behind a script.
-fn ran(alloc: Global, script: &[u8]) -> Result<MemDisk, Fail> {
-    let ran = run(alloc, script, expect_new_store(alloc, store(alloc)?)?)?;
-    Ok(ran.disk)
-}
 
 #[test]
 fn a_store_is_one_object(rt: HostRuntime) -> Result<(), Fail> {

@@ -53,6 +53,8 @@ mod slots;
 #[cfg(test)]
 mod snapshot_runs;
 #[cfg(test)]
+mod tree_listings;
+#[cfg(test)]
 mod unloads;
 #[cfg(test)]
 mod verbs;

@@ -1,9 +1,11 @@
 //! What a store lists of itself.
 
+use crate::formats::expect_new_store;
 use page_disk::{MemDisk, PageDisk};
 use std::alloc::Global;
 use std::test::Fail;
-use test_runs::{Call, expect_end};
+use test_runs::{Call, expect_end, run};
+use test_stores::store;
 
 /// The call that lists a store and its volumes.
 pub(crate) static LIST: Call<'static> = Call {
@@ -20,6 +22,20 @@ pub(crate) static JSON: Call<'static> = Call {
     failing_reads: &[],
     failing_writes: &[],
 };
+
+/// The call that lists the volumes in a tree.
+pub(crate) static TREE: Call<'static> = Call {
+    line: "list --tree store.img",
+    script: b"no script",
+    failing_reads: &[],
+    failing_writes: &[],
+};
+
+/// The device of a new store behind a script.
+pub(crate) fn ran(alloc: Global, script: &[u8]) -> Result<MemDisk, Fail> {
+    let ran = run(alloc, script, expect_new_store(alloc, store(alloc)?)?)?;
+    Ok(ran.disk)
+}
 
 /// The device of a store of which this is listed, and to which nothing is written for it; fails where it isn't so.
 pub(crate) fn expect_listed(alloc: Global, printed: &[u8], disk: MemDisk) -> Result<MemDisk, Fail> {

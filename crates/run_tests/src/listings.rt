@@ -1,12 +1,11 @@
 //! Stores and their volumes, as they are listed.
 
-use crate::formats::{expect_new_store, failing};
-use crate::listed::{LIST, expect_listed};
-use page_disk::{CallKind, MemDisk};
-use std::alloc::Global;
+use crate::formats::failing;
+use crate::listed::{LIST, expect_listed, ran};
+use page_disk::CallKind;
 use std::test::Fail;
-use test_runs::{expect_end, run};
-use test_stores::{LAST, NAMED, PageRow, THICK, THIN, image_with_super, store};
+use test_runs::expect_end;
+use test_stores::{LAST, NAMED, PageRow, THICK, THIN, image_with_super};
 
 /// A script that is run on a new store, and what is listed behind it.
 static CASES: [(&[u8], &[u8]); 3] = [
@@ -26,12 +25,6 @@ static CASES: [(&[u8], &[u8]); 3] = [
             @1 c 0f443162-a7b1-54c6-977f-cca1b1a128bb slots 2 own 0 parent @0 thin rw\n",
     ),
 ];
-
-/// The device of a new store behind a script.
-fn ran(alloc: Global, script: &[u8]) -> Result<MemDisk, Fail> {
-    let ran = run(alloc, script, expect_new_store(alloc, store(alloc)?)?)?;
-    Ok(ran.disk)
-}
 
 #[test]
 fn volumes_are_listed_by_ascending_head(rt: HostRuntime) -> Result<(), Fail> {

@@ -5,7 +5,7 @@ use command_words::{read_words, refusal};
 use std::test::Fail;
 
 /// Words behind the program's name, and the command that they spell.
-const CASES: [(&str, &str); 19] = [
+const CASES: [(&str, &str); 21] = [
     (
         "run store.img",
         "Run { image: \"store.img\", schedule: None, threads: false }",
@@ -74,12 +74,23 @@ const CASES: [(&str, &str); 19] = [
     ),
     (
         "list store.img",
-        "List { image: \"store.img\", json: false }",
+        "List { image: \"store.img\", json: false, tree: false }",
     ),
-    ("list run", "List { image: \"run\", json: false }"),
+    (
+        "list run",
+        "List { image: \"run\", json: false, tree: false }",
+    ),
     (
         "list store.img --json",
-        "List { image: \"store.img\", json: true }",
+        "List { image: \"store.img\", json: true, tree: false }",
+    ),
+    (
+        "list --tree store.img",
+        "List { image: \"store.img\", json: false, tree: true }",
+    ),
+    (
+        "list --tree store.img --json",
+        "List { image: \"store.img\", json: true, tree: true }",
     ),
     ("generate 1 3", "Generate { number: \"1\", size: \"3\" }"),
     (
@@ -89,7 +100,7 @@ const CASES: [(&str, &str); 19] = [
 ];
 
 /// Words that spell no command.
-const NO_COMMANDS: [&str; 33] = [
+const NO_COMMANDS: [&str; 35] = [
     "",
     "help",
     "help run",
@@ -118,6 +129,8 @@ const NO_COMMANDS: [&str; 33] = [
     "list --json",
     "list store.img --json --json",
     "run store.img --json",
+    "list store.img --tree --tree",
+    "run store.img --tree",
     "generate",
     "generate 1",
     "generate 1 -3",

@@ -80,11 +80,13 @@ Arguments:
 
 Options:
       --json  Prints one line of JSON, an object, in place of a line for each volume
+      --tree  Prints the volumes alone, each below its parent; --json can't be there then
   -h, --help  Print help
 
 Examples:
   blobtool list store.img
   blobtool list --json store.img
+  blobtool list --tree store.img
 ";
 
 const GENERATE: &str =
