@@ -1,7 +1,7 @@
 -- A page of a volume is what is read where it lies, or zeros; and where it is read lies on the device.
 use Rattle.std.proofs.Common.{◌≡◌, ℕ, zero, suc, ◌+◌, ◌*◌, ◌%◌, ◌/◌, ◌<◌, ◌≤◌, Bool, true, false, Option, Some, None}
-use Rattle.std.proofs.Common.{List, [], length, refl, sym, ap, subst, ◌∙◌, add-one, arith}
-use Rattle.std.specs.Prelude.{if◌then◌else◌, nat_lt, slice_get}
+use Rattle.std.proofs.Common.{get_or, List, [], ◌∷◌, length, refl, sym, ap, subst, ◌∙◌, add-one, arith}
+use Rattle.std.specs.Prelude.{if◌then◌else◌, nat_lt, replicate, slice_get}
 use Rattle.std.specs.Option.{option_and_then, option_map_or}
 use Rattle.std.specs.Ordering.{nat_cmp}
 use Rattle.std.specs.FinMap as map
@@ -15,12 +15,13 @@ use Rattle.volume_model.specs.Volumes.{zero_page}
 use Rattle.blob_meta.specs.declared.meta.Meta.{Meta}
 use Rattle.blob_meta.specs.Pages.{parent_with, place_by, place_read}
 use Rattle.blob_meta.specs.Parents.{parent_of, slot}
+use Rattle.blob_meta.specs.SlotCounts.{HeadsFit}
 use Rattle.shown_volumes.specs.Maps.{Metas}
 use Rattle.shown_volumes.specs.Shown.{content, content_by}
 use Rattle.shown_volumes.proofs.Inside.{inside_slot}
 use Rattle.whole_copy.specs.Meant.{AreHeld, pages_shown}
 use Rattle.whole_copy.specs.Copied.{HoldsSo}
-use Rattle.whole_copy.proofs.VolumesShown.{as_volume, pages_long, shown_there}
+use Rattle.whole_copy.proofs.VolumesShown.{as_volume, heads_fit, pages_long, shown_there}
 
 got : {A : Type 0} (l : List A) (k : ℕ) (d : A) → k < length l → slice_get l k ≡ Some (get_or l k d)
 got [] k d lt = absurd (omega (arith, lt))
@@ -152,3 +153,15 @@ module _ (s : Super) (metas : map.FinMap nat_cmp Meta) (placed : IsPlaced s) (he
           let below : page < k * length m.map = subst (λ n. page < n) (ap length whole
           ∙ pages_long s metas placed held image h m) lt in
           ap (λ l. slice_get l page) whole ∙ in_volume m below
+
+  -- the place that was found, by the pages of a cluster, is where the page is read
+  pub found_place : (cluster_pages head page : ℕ) (found : Option ℕ) → cluster_pages ≡ k
+      → (HeadsFit metas → found ≡ place_read cluster_pages (map.get metas) (s.md_len + 1) head page)
+      → found ≡ place_read k (map.get metas) (s.md_len + 1) head page
+  found_place cluster_pages head page found same is =
+      is (heads_fit s metas placed held) ∙ ap (λ n. place_read n (map.get metas) (s.md_len + 1) head page) same
+
+-- a page of zeros
+pub zeros : replicate 4096 0 ≡ zero_page
+unfolding zero_page
+zeros = refl

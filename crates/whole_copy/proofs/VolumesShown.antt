@@ -1,5 +1,5 @@
 -- What an image shows of metadata that the store can hold are volumes of that metadata, with whole slots of pages.
-use Rattle.std.proofs.Common.{◌≡◌, ℕ, ◌+◌, ◌*◌, ◌^◌, ◌<◌, ◌≤◌, suc, List, [], length, Option, Some, None, refl, sym, ap}
+use Rattle.std.proofs.Common.{◌≡◌, ℕ, ◌*◌, ◌<◌, suc, [], length, Option, Some, None, refl, ap}
 use Rattle.std.proofs.Common.{arith, ◌∙◌}
 use Rattle.std.specs.Prelude.{IsSome}
 use Rattle.std.specs.Option.{option_map, option_map_or}
@@ -16,7 +16,7 @@ use Rattle.blob_meta.specs.ShownBy.{ShowsAt, ShowsMetas}
 use Rattle.blob_meta.specs.SlotCounts.{HeadsFit}
 use Rattle.shown_volumes.specs.Shown.{content, fixed_of, volume_of}
 use Rattle.shown_volumes.proofs.SlotSums.{slots_shown}
-use Rattle.whole_copy.specs.Meant.{AreHeld, pages_shown, volumes_shown}
+use Rattle.whole_copy.specs.Meant.{AreHeld, IsVolume, pages_shown, volumes_shown}
 
 module _ (s : Super) (metas : map.FinMap nat_cmp Meta) (placed : IsPlaced s) (held : AreHeld s metas) where
   low : (h : ℕ) (o : Option Meta) → map.get metas h ≡ o → IsSome o → h < s.md_len
@@ -70,3 +70,11 @@ module _ (s : Super) (metas : map.FinMap nat_cmp Meta) (placed : IsPlaced s) (he
         → pages_shown s metas image h ≡ (as_volume h m).pages
     shown_there h m there = ap (λ (o : Option Meta). option_map_or (λ (x : Volume). x.pages)
         (option_map (λ (m : Meta). as_volume h m) o) []) there
+
+  -- a blob that is there is a volume, with the pages of its slots
+  pub is_volume : (h : ℕ) (m : Meta) → map.get metas h ≡ Some m
+      → IsVolume s metas (record { head = h; pages = cluster_pages_of s * length m.map })
+  is_volume h m there = record {
+    there = rw there refl;
+    long = λ image. ap length (shown_there image h m there) ∙ pages_long image h m;
+  }

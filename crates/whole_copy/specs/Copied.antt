@@ -24,15 +24,15 @@ pub record IsLeft (pages : List Page) (old new : Image) : Type 0 where
   pub behind : (page : ℕ) → length pages ≤ page → new page ≡ old page
 
 module _ {D : Type 0} (d : disk.Ghosts D) (image image_now : D) {E : Type 0} (e : disk.Ghosts E) (target target_now : E)
-    where
-  -- a read of the image failed, or a write or the flush of the target; the other device has no fault
-  abbrev pub HasFailed : CopyFault → Type 0
-  HasFailed OfImage = Rose (d.read_faults image) (d.read_faults image_now)
-      × (e.write_faults target_now ≡ e.write_faults target)
-  HasFailed Target = Rose (e.write_faults target) (e.write_faults target_now)
-      × (d.read_faults image_now ≡ d.read_faults image)
+  where
+    -- a read of the image failed, or a write or the flush of the target; the other device has no fault
+    abbrev pub HasFailed : CopyFault → Type 0
+    HasFailed OfImage = Rose (d.read_faults image) (d.read_faults image_now)
+        × (e.write_faults target_now ≡ e.write_faults target)
+    HasFailed Target = Rose (e.write_faults target) (e.write_faults target_now)
+        × (d.read_faults image_now ≡ d.read_faults image)
 
-  -- no call of either device failed
-  pub record NoneFailed : Type 0 where
-    pub reads : d.read_faults image_now ≡ d.read_faults image
-    pub writes : e.write_faults target_now ≡ e.write_faults target
+    -- no call of either device failed
+    pub record NoneFailed : Type 0 where
+      pub reads : d.read_faults image_now ≡ d.read_faults image
+      pub writes : e.write_faults target_now ≡ e.write_faults target
