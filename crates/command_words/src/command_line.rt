@@ -156,11 +156,7 @@ fn export_line<'a>(alloc: Global) -> Result<Command<'a>, AllocError>
             "TARGET",
             "The file that gets the pages; it has to be there, and as long as the volume",
         ))?
-        .arg(placed(
-            alloc,
-            "VOLUME",
-            "The volume: its name, or @ and its head",
-        ))
+        .arg(placed(alloc, "VOLUME", "The volume: its name, or @ and its head"))
 }
 
 /// The command, with the two numbers that say which script is drawn behind its own arguments.

@@ -5,7 +5,7 @@ use command_words::{read_words, refusal};
 use std::test::Fail;
 
 /// Words behind the program's name, and the command that they spell.
-const CASES: [(&str, &str); 19] = [
+const CASES: [(&str, &str); 20] = [
     (
         "run store.img",
         "Run { image: \"store.img\", schedule: None, threads: false }",
@@ -81,6 +81,10 @@ const CASES: [(&str, &str); 19] = [
         "list store.img --json",
         "List { image: \"store.img\", json: true }",
     ),
+    (
+        "export store.img disk.raw v",
+        "Export { image: \"store.img\", target: \"disk.raw\", volume: \"v\" }",
+    ),
     ("generate 1 3", "Generate { number: \"1\", size: \"3\" }"),
     (
         "exercise store.img 1 3",
@@ -89,7 +93,7 @@ const CASES: [(&str, &str); 19] = [
 ];
 
 /// Words that spell no command.
-const NO_COMMANDS: [&str; 33] = [
+const NO_COMMANDS: [&str; 36] = [
     "",
     "help",
     "help run",
@@ -118,6 +122,9 @@ const NO_COMMANDS: [&str; 33] = [
     "list --json",
     "list store.img --json --json",
     "run store.img --json",
+    "export",
+    "export store.img disk.raw",
+    "export store.img disk.raw v w",
     "generate",
     "generate 1",
     "generate 1 -3",
