@@ -49,7 +49,7 @@ _blobtool() {
     local typed=${COMP_WORDS[COMP_CWORD]} present= due= others=0 ended= options= images=1
     COMPREPLY=()
     if [ "$COMP_CWORD" = 1 ]; then
-        _blobtool_offer "format run list generate exercise help --help --version"
+        _blobtool_offer "format run list export generate exercise help --help --version"
         return
     fi
     case ${COMP_WORDS[1]} in
@@ -57,9 +57,10 @@ _blobtool() {
         run) options="--schedule --threads" ;;
         list) options="--json --tree" ;;
         exercise) ;;
+        export) images=2 ;;
         generate) images=0 ;;
         help)
-            [ "$COMP_CWORD" != 2 ] || _blobtool_offer "format run list generate exercise"
+            [ "$COMP_CWORD" != 2 ] || _blobtool_offer "format run list export generate exercise"
             return
             ;;
         *) return ;;

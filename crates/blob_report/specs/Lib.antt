@@ -3,3 +3,4 @@ pub mod PageText
 pub mod Text
 pub mod StoreText
 pub mod Summary
+pub mod ExportText

@@ -40,7 +40,7 @@ fn push_df(df: Df, into: &mut Vec<u8>) -> Result<(), Memory>
 }
 
 /// Appends the text of a reply. After `Memory` what was there still stands first.
-fn push_reply(reply: &Reply, into: &mut Vec<u8>) -> Result<(), Memory>
+pub(crate) fn push_reply(reply: &Reply, into: &mut Vec<u8>) -> Result<(), Memory>
     ensures ok { OnOk result (into.new.items ≡ into.old.items ++ reply_text reply.now) }
     ensures kept { take (length into.old.items) into.new.items ≡ into.old.items }
 {

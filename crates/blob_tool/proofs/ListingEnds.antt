@@ -1,37 +1,28 @@
 -- What a listing came to.
-use Rattle.std.proofs.Common.{◌≡◌, refl, sym, subst}
+use Rattle.std.proofs.Common.{sym, subst}
 use Rattle.page_disk.specs.declared.disk.PageDisk as disk
 use Rattle.md_chain.specs.Reading.{OnlyRead}
 use Rattle.streams.specs.declared.sink.Sink as sink
-use Rattle.unclean_load.specs.Accepted.{IsImageFault}
-use Rattle.unclean_load.specs.Reading.{IsOnlyFault}
-use Rattle.unclean_load.specs.declared.fault.LoadFault.{LoadFault}
-use Rattle.unclean_load.specs.declared.fault.LoadFault.TheVariants as loading
 use Rattle.listing_text.specs.declared.format.ListFormat.{ListFormat}
 use Rattle.blob_tool.specs.ListOutcome.{ListEnded}
-use Rattle.blob_tool.specs.Untouched.{IsRefused, NothingWritten}
-use Rattle.blob_tool.specs.Statuses.{of_loading}
+use Rattle.blob_tool.specs.Loading.{IsNotLoaded}
+use Rattle.blob_tool.specs.Untouched.{NothingWritten}
 use Rattle.blob_tool.specs.declared.status.Status.{Status}
 use Rattle.blob_tool.specs.declared.status.Status.TheVariants as status
 
 module _ (format : ListFormat) {D : Type 0} (d : disk.Ghosts D) {K : Type 0} (k : sink.Ghosts K) (out out_now : K)
     (before back : D) where
   -- a store that wasn't loaded
-  pub unlisted : (fault : LoadFault) → NothingWritten d before out out_now back
-      → IsOnlyFault (d.read_faults before) (d.read_faults back) fault
-      → (IsImageFault fault → d.read_faults back ≡ d.read_faults before → IsRefused d before back fault)
-      → ListEnded d before back k out out_now format (of_loading fault)
-  unlisted loading.ReadFault stays counted refused = (stays, refl, counted)
-  unlisted loading.Memory stays counted refused = stays
-  unlisted (loading.Super why) stays counted refused = (stays, refused tt counted)
-  unlisted (loading.Chain head why) stays counted refused = (stays, refused tt counted)
-  unlisted (loading.Meta head why) stays counted refused = (stays, refused tt counted)
-  unlisted (loading.MapsTooLarge slots) stays counted refused = (stays, refused tt counted)
-  unlisted (loading.NoParentBlob blob parent) stays counted refused = (stays, refused tt counted)
-  unlisted (loading.WritableParent blob parent) stays counted refused = (stays, refused tt counted)
-  unlisted (loading.ParentLoop blob) stays counted refused = (stays, refused tt counted)
-  unlisted (loading.Shared cluster a b) stays counted refused = (stays, refused tt counted)
-  unlisted (loading.NoRoom head has wants) stays counted refused = absurd counted
+  pub unlisted : (st : Status) → NothingWritten d before out out_now back → IsNotLoaded d before back st
+      → ListEnded d before back k out out_now format st
+  unlisted (status.Image fault) stays why = (stays, why)
+  unlisted (status.Device at) stays why = (stays, why.0, why.1)
+  unlisted status.Memory stays why = stays
+  unlisted status.Good stays why = absurd why
+  unlisted status.OutWrite stays why = absurd why
+  unlisted status.Usage stays why = absurd why
+  unlisted (status.Script line kind) stays why = absurd why
+  unlisted status.ScriptRead stays why = absurd why
 
   -- whatever came of it, the device was only read
   pub only_read : (st : Status) → ListEnded d before back k out out_now format st → OnlyRead d before back

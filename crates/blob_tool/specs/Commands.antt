@@ -1,5 +1,5 @@
 -- What the words ask for. Whatever it is, they ask for nothing else.
-use Rattle.std.specs.Prelude.{◌≡◌, ◌<◌, List, Option, Some, None, IfSome, String}
+use Rattle.std.specs.Prelude.{◌≡◌, ◌⊎◌, ◌<◌, List, Option, Some, None, IfSome, IsSome, String}
 use Rattle.std.specs.declared.alloc.Global.{Global}
 use Rattle.blob_tool.specs.RunScripts.{CanBeRun, IsWithinLimits}
 use Rattle.blob_tool.specs.RunWords.{AsksToRun, AskForNoRun}
@@ -7,6 +7,8 @@ use Rattle.blob_tool.specs.FormatWords.{format_in}
 use Rattle.blob_tool.specs.GenerateWords.{generate_in}
 use Rattle.listing_text.specs.declared.format.ListFormat.{ListFormat}
 use Rattle.blob_tool.specs.ListWords.{list_in}
+use Rattle.blob_tool.specs.ExportWords.{export_in}
+use Rattle.volume_model.specs.declared.command.VolumeRef.{VolumeRef}
 use Rattle.blob_tool.specs.declared.driving.Drive.{Drive}
 use Rattle.blob_tool.specs.declared.format_words.Format.{Format}
 use Rattle.blob_tool.specs.declared.generate_words.GeneratedScript.{GeneratedScript}
@@ -19,6 +21,7 @@ pub record AskForNothing (words : List (String Global)) : Type 0 where
   pub no_run : AskForNoRun words
   pub no_format : format_in words ≡ None
   pub no_list : list_in words ≡ None
+  pub no_export : export_in words ≡ None
   pub no_generate : generate_in words ≡ None
 
 module _ (words : List (String Global)) where
@@ -29,6 +32,7 @@ module _ (words : List (String Global)) where
     pub within : CanBeRun script
     pub no_format : format_in words ≡ None
     pub no_list : list_in words ≡ None
+    pub no_export : export_in words ≡ None
     pub no_generate : generate_in words ≡ None
 
   -- a new store like this, with at least one metadata page
@@ -37,6 +41,7 @@ module _ (words : List (String Global)) where
     pub some_page : IfSome new.md_pages (λ pages. 0 < pages)
     pub no_run : AskForNoRun words
     pub no_list : list_in words ≡ None
+    pub no_export : export_in words ≡ None
     pub no_generate : generate_in words ≡ None
 
   -- a listing in this format
@@ -44,6 +49,15 @@ module _ (words : List (String Global)) where
     pub asked : list_in words ≡ Some format
     pub no_run : AskForNoRun words
     pub no_format : format_in words ≡ None
+    pub no_export : export_in words ≡ None
+    pub no_generate : generate_in words ≡ None
+
+  -- an export of this volume
+  pub record AskToExport (volume : VolumeRef) : Type 0 where
+    pub asked : export_in words ≡ Some volume
+    pub no_run : AskForNoRun words
+    pub no_format : format_in words ≡ None
+    pub no_list : list_in words ≡ None
     pub no_generate : generate_in words ≡ None
 
   -- this generated script, whose number and size are within their limits
@@ -53,6 +67,7 @@ module _ (words : List (String Global)) where
     pub no_run : AskForNoRun words
     pub no_format : format_in words ≡ None
     pub no_list : list_in words ≡ None
+    pub no_export : export_in words ≡ None
 
   -- what they ask for, if it is anything
   abbrev pub AskFor : Option Task → Type 0
@@ -60,4 +75,9 @@ module _ (words : List (String Global)) where
   AskFor (Some (task.Run script drive)) = AskToRun script drive
   AskFor (Some (task.Format new)) = AskToFormat new
   AskFor (Some (task.List format)) = AskToList format
+  AskFor (Some (task.Export volume)) = AskToExport volume
   AskFor (Some (task.Generate script)) = AskToGenerate script
+
+-- They are no command, or ask for an export, and there is no second device.
+abbrev pub AskInVain : {E : Type 0} → List (String Global) → Option E → Type 0
+AskInVain words second = AskForNothing words ⊎ (IsSome (export_in words) × (second ≡ None))

@@ -13,5 +13,9 @@ pub mod GenerateWords
 pub mod GenerateOutcome
 pub mod ListWords
 pub mod ListOutcome
+pub mod Loading
+pub mod ExportWords
+pub mod ExportOutcome
+pub mod Exporting
 pub mod Commands
 pub mod RunWords

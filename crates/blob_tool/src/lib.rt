@@ -3,6 +3,7 @@
 
 mod closing;
 mod driving;
+mod exporting;
 mod finishing;
 mod format_words;
 mod formatting;
@@ -11,6 +12,7 @@ mod generating;
 mod laws;
 mod list_words;
 mod listing;
+mod loading;
 mod opening;
 mod preparing;
 mod repairing;
@@ -28,6 +30,6 @@ pub use script_lang::LineKind;
 pub use status::Status;
 pub use streams::{ListSink, ListSource, Sink, SinkFault, Source, SourceFault};
 pub use threadless::blobtool;
-pub use top::blobtool_gated;
+pub use top::{blobtool_gated, blobtool_two};
 pub use unclean_load::LoadFault;
 pub use worker_threads::{Gate, OpenGate};

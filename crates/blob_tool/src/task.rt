@@ -12,8 +12,9 @@ use crate::run_words::drive_of;
 use command_words::{CommandWords, read_words};
 use listing_text::ListFormat;
 use out_of_memory::Memory;
-use script_lang::Schedule;
+use script_lang::{Schedule, read_volume};
 use std::alloc::Global;
+use volume_model::VolumeRef;
 
 /// What a command is to do.
 #[derive(Debug, Drop)]
@@ -24,6 +25,8 @@ pub(crate) enum Task {
     Format(Format),
     /// The store and its volumes are printed, in this format.
     List(ListFormat),
+    /// What this volume shows is written to a second device.
+    Export(VolumeRef),
     /// This script is printed.
     Generate(GeneratedScript),
 }
@@ -46,6 +49,9 @@ pub(crate) fn task_in(alloc: Global, words: &[String]) -> Result<Option<Task>, M
         },
         CommandWords::Format { options, .. } => Ok(of_options(&options).map(Task::Format)),
         CommandWords::List { json, tree, .. } => Ok(list_format(json, tree).map(Task::List)),
+        CommandWords::Export { volume, .. } => {
+            Ok(read_volume(volume.as_bytes()).map(Task::Export))
+        }
         CommandWords::Generate { number, size } => {
             Ok(generated_script(number, size).map(Task::Generate))
         }

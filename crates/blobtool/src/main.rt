@@ -1,10 +1,10 @@
 //! Runs a script from standard input on the store in an image file, and prints its log to standard output, or runs a
 //! generated one and prints what sums it up; writes a new store into the file, and prints its line; prints the store in
-//! the file and its volumes; or prints a generated script. Any exit status other than 0 comes with one line on standard
+//! the file and its volumes; writes what a volume shows to another file; or prints a generated script. Any exit status other than 0 comes with one line on standard
 //! error; where the words are no command, or ask for help, with `clap`'s text.
 #![tactic(auto)]
 
-use blob_tool::{OpenGate, Status, blobtool_gated};
+use blob_tool::{OpenGate, Status, blobtool_two};
 use command_words::{CommandWords, read_words, refusal};
 use host_io::{
     Access, Ending, ErrorLine, FileDisk, ImageSizes, KeptInput, OpenFault, StdSink, StdSource,
@@ -39,23 +39,26 @@ fn usage(rt: &HostRuntime, words: &[String]) -> Ending {
     }
 }
 
-/// Does what the words say over the standard streams and this device, which it hands back.
-fn perform<'a, D: PageDisk + Drop + Send, R: Threads + Wait + Sync>(
+/// Does what the words say over the standard streams, this device, and the second one, if there is one. It hands the
+/// devices back.
+fn perform<'a, D: PageDisk + Drop + Send, E: PageDisk + Drop + Send, R: Threads + Wait + Sync>(
     rt: &HostRuntime,
     threads: &R,
     words: &'a [String],
     image: Option<&'a str>,
     disk: D,
-) -> (ErrorLine<'a>, D) {
+    second: Option<E>,
+) -> (ErrorLine<'a>, D, Option<E>) {
     let mut script = StdSource::new(KeptInput::new(rt.alloc(), rt.stdin()));
     let mut out = StdSink::new(rt.stdout());
-    let (status, disk) = blobtool_gated(
+    let (status, disk, second) = blobtool_two(
         threads,
         rt.alloc(),
         words,
         &mut script,
         &mut out,
         disk,
+        second,
         &OpenGate,
     );
     let failure = match &status {
@@ -74,7 +77,7 @@ fn perform<'a, D: PageDisk + Drop + Send, R: Threads + Wait + Sync>(
     let mut line = ErrorLine::new(words.first().map(|word| word.as_str()), image, ending);
     line.failure = failure;
     line.script_line = script_line;
-    (line, disk)
+    (line, disk, second)
 }
 
 /// Closes the disk of an image, and takes into the line which call on it failed. Where all was good but a write that is
@@ -89,6 +92,47 @@ fn end_disk(line: &mut ErrorLine<'_>, disk: FileDisk) {
     }
 }
 
+/// Closes the target of an export, and takes into the line which call on it failed.
+fn end_target<'a>(line: &mut ErrorLine<'a>, target: &'a str, disk: FileDisk) {
+    let (written, failure) = close(disk);
+    if written.is_err() && matches!(&line.ending, Ending::Ran(Status::Good)) {
+        line.ending = Ending::Ran(Status::Device { at: 0 });
+    }
+    if let Some(failure) = failure {
+        line.image = Some(target);
+        line.failure = Some(failure.on_target());
+    }
+}
+
+/// Does what the words say over this image, and over this target, if there is one. The target is opened last, and nothing
+/// is done unless both are had.
+fn over_files<'a, R: Threads + Wait + Sync>(
+    rt: &HostRuntime,
+    threads: &R,
+    words: &'a [String],
+    image: &'a str,
+    target: &'a str,
+) -> ErrorLine<'a> {
+    let command = words.first().map(|word| word.as_str());
+    let disk = match open(rt, image, Access::Read) {
+        Ok(disk) => disk,
+        Err(ending) => return ErrorLine::new(command, Some(image), ending),
+    };
+    let second = match open(rt, target, Access::Write) {
+        Ok(second) => second,
+        Err(ending) => return ErrorLine::new(command, Some(target), ending),
+    };
+    let (mut line, mut disk, second) = perform(rt, threads, words, Some(image), disk, Some(second));
+    if matches!(&line.ending, Ending::Ran(Status::Image { .. })) {
+        line.sizes = ImageSizes::on(&mut disk);
+    }
+    end_disk(&mut line, disk);
+    if let Some(second) = second {
+        end_target(&mut line, target, second);
+    }
+    line
+}
+
 /// Does what the words say over this image.
 fn over_image<'a, R: Threads + Wait + Sync>(
     rt: &HostRuntime,
@@ -99,7 +143,8 @@ fn over_image<'a, R: Threads + Wait + Sync>(
 ) -> ErrorLine<'a> {
     match open(rt, image, access) {
         Ok(disk) => {
-            let (mut line, mut disk) = perform(rt, threads, words, Some(image), disk);
+            let none: Option<FileDisk> = None;
+            let (mut line, mut disk, _) = perform(rt, threads, words, Some(image), disk, none);
             if matches!(&line.ending, Ending::Ran(Status::Image { .. })) {
                 line.sizes = ImageSizes::on(&mut disk);
             }
@@ -121,7 +166,8 @@ fn without_image<'a, R: Threads + Wait + Sync>(
 ) -> ErrorLine<'a> {
     match MemDisk::new(rt.alloc(), 0, 0) {
         Ok(disk) => {
-            let (line, _disk) = perform(rt, threads, words, None, disk);
+            let none: Option<MemDisk> = None;
+            let (line, _disk, _) = perform(rt, threads, words, None, disk, none);
             line
         }
         Err(_) => ErrorLine::new(None, None, Ending::Ran(Status::Memory)),
@@ -173,6 +219,9 @@ fn start<'a, R: Threads + Wait + Sync>(
             image,
             Access::Read,
         ),
+        Ok(Some(CommandWords::Export { image, target, .. })) => {
+            over_files(rt, threads, words, image, target)
+        }
         Ok(Some(CommandWords::Generate { .. })) => without_image(rt, threads, words),
         Ok(None) => refuse(rt, threads, words),
         Err(_) => ErrorLine::new(None, None, Ending::Ran(Status::Memory)),

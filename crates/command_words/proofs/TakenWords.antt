@@ -17,10 +17,10 @@ use Rattle.clap.specs.Simple.{rows_at, Shape, subcommand_of, with_leaf_noted}
 use Rattle.clap.specs.Takes.{is_given}
 use Rattle.clap.specs.Walk.{answers_to, first_of, nothing_held, Row, rows_after, settled, stop_after, Text, walk}
 use Rattle.clap.specs.Walk.{Rule, walk_from}
-use Rattle.command_words.specs.CommandLine.{command_line, exercise_line, format_line, generate_line, list_line}
-use Rattle.command_words.specs.CommandLine.{run_line}
+use Rattle.command_words.specs.CommandLine.{command_line, exercise_line, export_line, format_line, generate_line}
+use Rattle.command_words.specs.CommandLine.{list_line, run_line}
 use Rattle.command_words.specs.Words.{as_read, asked_by, asked_in, refusal_of, unless_refused}
-use Rattle.command_words.specs.Words.{exercise, format, generate, has_flag, list, options_by, run, Asked}
+use Rattle.command_words.specs.Words.{exercise, export, format, generate, has_flag, list, options_by, run, Asked}
 use Rattle.command_words.specs.declared.reading.CommandWords.{CommandWords}
 use Rattle.command_words.proofs.FullLevels.{full-level}
 use Rattle.command_words.proofs.FullRows.{both_none, given-first}
@@ -143,21 +143,36 @@ module _ (words : List Text) where
       (given-first (codes "NUMBER") rows level.0 (given_from number (not size || false) lacks))
       (given-first (codes "SIZE") rows level.0 (given_from size false (more_from number (not size || false) lacks)))
 
+  -- one that has to have these three arguments, and nothing else
+  three_given : (f : Text → Text → Text → Asked) (a b c : Text) (s : Shape) → AllReady s.rules
+      → ((rows : List Row) → check_fault s rows false ≡ check_kinds false false
+      (not (is_given a rows) || (not (is_given b rows) || (not (is_given c rows) || false))))
+      → level_fault s [] nothing_held words false [] ≡ []
+      → (let rows = rows_after s.rules [] words in
+      is_some (option_and_then (λ x. option_and_then (λ y. option_map (f x y) (first_of c rows)) (first_of b rows))
+      (first_of a rows)) ≡ true)
+  three_given f a b c s ready checks none =
+      let rows = rows_after s.rules [] words in
+      let first = is_given a rows in
+      let second = is_given b rows in
+      let third = is_given c rows in
+      let level = full-level s ready [] words false [] none in
+      let lacks = none_lacks (not first || (not second || (not third || false))) (sym (checks rows) ∙ level.1) in
+      let others = more_from first (not second || (not third || false)) lacks in
+      is_some-three f (first_of a rows) (first_of b rows) (first_of c rows)
+      (given-first a rows level.0 (given_from first (not second || (not third || false)) lacks))
+      (given-first b rows level.0 (given_from second (not third || false) others))
+      (given-first c rows level.0 (given_from third false (more_from second (not third || false) others)))
+
+  export_taken : IsTaken words (leaf export_line)
+  export_taken none =
+      three_given export (codes "IMAGE") (codes "TARGET") (codes "VOLUME") (leaf export_line)
+      (takes_one refl refl, (takes_one refl refl, (takes_one refl refl, (asks_help refl, tt)))) (λ rows. refl) none
+
   exercise_taken : IsTaken words (leaf exercise_line)
   exercise_taken none =
-      let rows = rows_after (leaf exercise_line).rules [] words in
-      let image = is_given (codes "IMAGE") rows in
-      let number = is_given (codes "NUMBER") rows in
-      let size = is_given (codes "SIZE") rows in
-      let level = full-level (leaf exercise_line)
-      (takes_one refl refl, (takes_one refl refl, (takes_one refl refl, (asks_help refl, tt)))) [] words false [] none in
-      let lacks = none_lacks (not image || (not number || (not size || false))) level.1 in
-      let others = more_from image (not number || (not size || false)) lacks in
-      is_some-three exercise (first_of (codes "IMAGE") rows) (first_of (codes "NUMBER") rows)
-      (first_of (codes "SIZE") rows)
-      (given-first (codes "IMAGE") rows level.0 (given_from image (not number || (not size || false)) lacks))
-      (given-first (codes "NUMBER") rows level.0 (given_from number (not size || false) others))
-      (given-first (codes "SIZE") rows level.0 (given_from size false (more_from number (not size || false) others)))
+      three_given exercise (codes "IMAGE") (codes "NUMBER") (codes "SIZE") (leaf exercise_line)
+      (takes_one refl refl, (takes_one refl refl, (takes_one refl refl, (asks_help refl, tt)))) (λ rows. refl) none
 
 or_false : (b : Bool) → (b || false) ≡ true → b ≡ true
 or_false true is = refl
@@ -177,12 +192,13 @@ module _ (p : Text × List Text) (no_help : (bytes_eq p.0 (codes "help") && true
   among_taken s (inl is) none = subst (IsTaken p.1) is.0 (run_taken p.1) none
   among_taken s (inr (inl is)) none = subst (IsTaken p.1) is.0 (format_taken p.1) none
   among_taken s (inr (inr (inl is))) none = subst (IsTaken p.1) is.0 (list_taken p.1) none
-  among_taken s (inr (inr (inr (inl is)))) none = subst (IsTaken p.1) is.0 (generate_taken p.1) none
-  among_taken s (inr (inr (inr (inr (inl is))))) none = subst (IsTaken p.1) is.0 (exercise_taken p.1) none
-  among_taken s (inr (inr (inr (inr (inr (inl is)))))) none =
+  among_taken s (inr (inr (inr (inl is)))) none = subst (IsTaken p.1) is.0 (export_taken p.1) none
+  among_taken s (inr (inr (inr (inr (inl is))))) none = subst (IsTaken p.1) is.0 (generate_taken p.1) none
+  among_taken s (inr (inr (inr (inr (inr (inl is)))))) none = subst (IsTaken p.1) is.0 (exercise_taken p.1) none
+  among_taken s (inr (inr (inr (inr (inr (inr (inl is))))))) none =
       let help = (bytes_eq-Decides (codes "help") p.0).0 (or_false (bytes_eq (codes "help") p.0) is.1) in
       let bad = subst (λ (name : Text). (bytes_eq name (codes "help") && true) ≡ false) (sym help) no_help in cc bad
-  among_taken s (inr (inr (inr (inr (inr (inr never)))))) none = absurd never
+  among_taken s (inr (inr (inr (inr (inr (inr (inr never))))))) none = absurd never
 
   shape_taken : (found : Option Shape) → ((s : Shape) → found ≡ Some s → Among answers s line.subs)
       → option_map_or (λ s. level_fault s [] nothing_held p.1 false []) found [] ≡ []

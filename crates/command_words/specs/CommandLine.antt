@@ -40,6 +40,11 @@ abbrev pub list_line : Shape
 list_line =
     subcommand (codes "list") (placed_rule (codes "IMAGE") ∷ flag (codes "json") ∷ flag (codes "tree") ∷ [])
 
+abbrev pub export_line : Shape
+export_line =
+    subcommand (codes "export")
+    (placed_rule (codes "IMAGE") ∷ placed_rule (codes "TARGET") ∷ placed_rule (codes "VOLUME") ∷ [])
+
 -- and behind its own arguments the two numbers that say which script is drawn
 abbrev pub with_script : App → App
 with_script a = with_rule (with_rule a (placed_rule (codes "NUMBER"))) (placed_rule (codes "SIZE"))
@@ -69,7 +74,7 @@ without_commands = record {
 abbrev pub with_stores : App
 with_stores = record {
   top = record without_commands.top { is_leaf = false };
-  subs = run_line ∷ format_line ∷ list_line ∷ [];
+  subs = run_line ∷ format_line ∷ list_line ∷ export_line ∷ [];
 }
 
 abbrev pub command_line : App

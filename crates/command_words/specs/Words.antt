@@ -29,6 +29,8 @@ pub data Asked : Type 0 where
   format : Text → FormatTexts → Asked
   -- an image, and whether it is to be in JSON, and as a tree
   list : Text → Bool → Bool → Asked
+  -- an image, a target, and a volume of the image
+  export : Text → Text → Text → Asked
   -- a number and a size
   generate : Text → Text → Asked
   -- an image, a number and a size
@@ -59,6 +61,12 @@ list_by rows =
     option_map (λ image. list image (has_flag (codes "json") rows) (has_flag (codes "tree") rows))
     (first_of (codes "IMAGE") rows)
 
+abbrev pub export_by : List Row → Option Asked
+export_by rows =
+    option_and_then
+    (λ image. option_and_then (λ target. option_map (export image target) (first_of (codes "VOLUME") rows))
+    (first_of (codes "TARGET") rows)) (first_of (codes "IMAGE") rows)
+
 abbrev pub generate_by : List Row → Option Asked
 generate_by rows =
     option_and_then (λ number. option_map (generate number) (first_of (codes "SIZE") rows))
@@ -76,8 +84,9 @@ asked_by name rows =
     if bytes_eq name (codes "run") then run_asked rows
     else (if bytes_eq name (codes "format") then format_by rows
     else (if bytes_eq name (codes "list") then list_by rows
+    else (if bytes_eq name (codes "export") then export_by rows
     else (if bytes_eq name (codes "generate") then generate_by rows
-    else (if bytes_eq name (codes "exercise") then exercise_by rows else None))))
+    else (if bytes_eq name (codes "exercise") then exercise_by rows else None)))))
 
 -- the kinds of error with which `clap` refuses the words, or answers that they ask for help or the version; none where
 -- it takes them
@@ -111,5 +120,6 @@ abbrev pub as_read : CommandWords → Asked
 as_read (words.Run image schedule threads) = run image.now (option_copied schedule) threads
 as_read (words.Format image options) = format image.now (texts_of options)
 as_read (words.List image json tree) = list image.now json tree
+as_read (words.Export image target volume) = export image.now target.now volume.now
 as_read (words.Generate number size) = generate number.now size.now
 as_read (words.Exercise image number size) = exercise image.now number.now size.now

@@ -146,6 +146,27 @@ fn list_line<'a>(alloc: Global) -> Result<Command<'a>, AllocError>
         ))
 }
 
+/// `export IMAGE TARGET VOLUME`.
+fn export_line<'a>(alloc: Global) -> Result<Command<'a>, AllocError>
+    ensures shape { IfOk result (λ c. shape_of c ≡ said.export_line) }
+    ensures local { IfOk result (λ c. (fields_of c).has_globals ≡ false) }
+{
+    Command::new(alloc, "export")
+        .about("Writes what a volume shows to a file or a block device, and how many pages that is")
+        .after_help(
+            "Example: blobtool export store.img disk.raw v{n}{n}\
+             Warning: what the target has below the volume's length is lost. Nothing is written{n}\
+             to the image.",
+        )
+        .arg(placed(alloc, "IMAGE", "The file that has the store"))?
+        .arg(placed(
+            alloc,
+            "TARGET",
+            "The file that gets the pages; it has to be there, and as long as the volume",
+        ))?
+        .arg(placed(alloc, "VOLUME", "The volume: its name, or @ and its head"))
+}
+
 /// The command, with the two numbers that say which script is drawn behind its own arguments.
 fn with_script<'a>(alloc: Global, command: Command<'a>) -> Result<Command<'a>, AllocError>
     ensures shape { IfOk result (λ c. app_of c ≡ said.with_script (app_of command.entry)) }
@@ -209,7 +230,8 @@ fn with_stores<'a>(alloc: Global) -> Result<Command<'a>, AllocError>
     without_commands(alloc)?
         .subcommand(run_line(alloc)?)?
         .subcommand(format_line(alloc)?)?
-        .subcommand(list_line(alloc)?)
+        .subcommand(list_line(alloc)?)?
+        .subcommand(export_line(alloc)?)
 }
 
 /// The program's command line, for the words behind the program's name.

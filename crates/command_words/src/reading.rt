@@ -49,6 +49,12 @@ pub enum CommandWords<'a> {
         json: bool,
         tree: bool,
     },
+    /// `export IMAGE TARGET VOLUME`.
+    Export {
+        image: &'a str,
+        target: &'a str,
+        volume: &'a str,
+    },
     /// `generate NUMBER SIZE`.
     Generate {
         number: &'a str,
@@ -135,6 +141,20 @@ fn list_of<'a>(found: &ArgMatches<'a>) -> Option<CommandWords<'a>>
     })
 }
 
+/// An `export` with what was found behind it.
+fn export_of<'a>(found: &ArgMatches<'a>) -> Option<CommandWords<'a>>
+    ensures { option_map as_read result ≡ said.export_by (rows_of (found_of found.now)) }
+{
+    let image = text_of(found, "IMAGE")?;
+    let target = text_of(found, "TARGET")?;
+    let volume = text_of(found, "VOLUME")?;
+    Some(CommandWords::Export {
+        image,
+        target,
+        volume,
+    })
+}
+
 /// A `generate` with what was found behind it.
 fn generate_of<'a>(found: &ArgMatches<'a>) -> Option<CommandWords<'a>>
     ensures { option_map as_read result ≡ said.generate_by (rows_of (found_of found.now)) }
@@ -166,6 +186,7 @@ fn command_of<'a>(name: &str, found: &ArgMatches<'a>) -> Option<CommandWords<'a>
         "run" => run_of(found),
         "format" => format_of(found),
         "list" => list_of(found),
+        "export" => export_of(found),
         "generate" => generate_of(found),
         "exercise" => exercise_of(found),
         _ => None,

@@ -5,7 +5,7 @@ use std::fmt::{Display, Formatter, Result, Write};
 use std::io;
 use std::io::ErrorKind;
 
-/// A call on the image, or on a standard stream.
+/// A call on the image or on the target of an export, or on a standard stream.
 #[derive(Clone, Copy, Debug, PartialEq, Eq)]
 pub enum SystemCall {
     /// The read of a page of the image.
@@ -14,6 +14,10 @@ pub enum SystemCall {
     WritePage(u64),
     /// A flush of the image.
     Flush,
+    /// The write of a page of the target.
+    WriteTarget(u64),
+    /// A flush of the target.
+    FlushTarget,
     /// A read of standard input.
     ReadInput,
     /// A write to standard output.
@@ -43,12 +47,29 @@ impl From<FileFailure> for CallFailure {
     }
 }
 
+impl CallFailure {
+    /// The same call, on the target in place of the image.
+    pub fn on_target(self) -> CallFailure {
+        let call = match self.call {
+            SystemCall::WritePage(page) => SystemCall::WriteTarget(page),
+            SystemCall::Flush => SystemCall::FlushTarget,
+            call => call,
+        };
+        CallFailure {
+            call,
+            error: self.error,
+        }
+    }
+}
+
 impl Display for SystemCall {
     fn fmt<W: Write>(&self, f: &mut Formatter<W>) -> Result {
         match self {
             SystemCall::ReadPage(page) => write!(f, "reading page {page} of the image"),
             SystemCall::WritePage(page) => write!(f, "writing page {page} of the image"),
             SystemCall::Flush => write!(f, "flushing the image"),
+            SystemCall::WriteTarget(page) => write!(f, "writing page {page} of the target"),
+            SystemCall::FlushTarget => write!(f, "flushing the target"),
             SystemCall::ReadInput => write!(f, "reading standard input"),
             SystemCall::WriteOutput => write!(f, "writing standard output"),
         }

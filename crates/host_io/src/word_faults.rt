@@ -4,7 +4,7 @@ use crate::on_line::OnLine;
 use command_words::{CommandWords, FormatOptions, read_words};
 use lvol_store::{check_name, uuid_in};
 use out_of_memory::Memory;
-use script_lang::{ScheduleFault, number_below, parse_schedule};
+use script_lang::{ScheduleFault, number_below, parse_schedule, read_volume};
 use std::alloc::Global;
 use std::fmt::{Display, Formatter, Result as Written, Write};
 
@@ -41,6 +41,9 @@ const PAGES_FORM: &str = "a number from 1 to 1048576";
 const NAME_FORM: &str = "1 to 63 printable characters without a space, the first neither @ nor #";
 
 const UUID_FORM: &str = "32 hexadecimal digits, with or without hyphens";
+
+const VOLUME_FORM: &str =
+    "@ and a head below 4294967296, or a name of 1 to 63 bytes, the first neither @ nor #";
 
 const NUMBER_FORM: &str = "a number from 0 to 2147483647";
 
@@ -148,6 +151,14 @@ fn of_script(alloc: Global, number: &str, size: &str) -> Result<Option<WordFault
     Ok(None)
 }
 
+/// What is wrong with the volume of an export.
+fn of_volume(alloc: Global, volume: &str) -> Result<Option<WordFault>, Memory> {
+    if read_volume(volume.as_bytes()).is_none() {
+        return bad(alloc, "VOLUME", volume, VOLUME_FORM);
+    }
+    Ok(None)
+}
+
 /// What is wrong with a schedule.
 fn of_schedule(alloc: Global, list: &str) -> Result<Option<WordFault>, Memory> {
     match parse_schedule(alloc, list.as_bytes()) {
@@ -190,6 +201,7 @@ pub fn word_fault(alloc: Global, words: &[String]) -> Result<Option<WordFault>, 
             },
         ) => of_schedule(alloc, list),
         Some(CommandWords::Format { options, .. }) => of_format(alloc, &options),
+        Some(CommandWords::Export { volume, .. }) => of_volume(alloc, volume),
         Some(
             CommandWords::Generate { number, size } | CommandWords::Exercise { number, size, .. },
         ) => of_script(alloc, number, size),

@@ -45,7 +45,7 @@ static HOLDER_LINES: [(DeviceHolder, &str); 3] = [
     ),
 ];
 
-static CALL_LINES: [(SystemCall, &str); 3] = [
+static CALL_LINES: [(SystemCall, &str); 5] = [
     (
         SystemCall::ReadPage(17),
         "reading page 17 of the image failed: No space left on device (os error 28)",
@@ -57,6 +57,14 @@ static CALL_LINES: [(SystemCall, &str); 3] = [
     (
         SystemCall::Flush,
         "flushing the image failed: No space left on device (os error 28)",
+    ),
+    (
+        SystemCall::WriteTarget(17),
+        "writing page 17 of the target failed: No space left on device (os error 28)",
+    ),
+    (
+        SystemCall::FlushTarget,
+        "flushing the target failed: No space left on device (os error 28)",
     ),
 ];
 

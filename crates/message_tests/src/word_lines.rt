@@ -17,7 +17,7 @@ fn words_of(alloc: Global, line: &str) -> Result<Vec<String>, Fail> {
     Ok(words)
 }
 
-static WORD_LINES: [(&str, &str); 12] = [
+static WORD_LINES: [(&str, &str); 14] = [
     (
         "format a.img --cluster 5000",
         "--cluster is '5000', wanted a multiple of 4096, from 4096 to 4294963200",
@@ -54,6 +54,12 @@ static WORD_LINES: [(&str, &str); 12] = [
     (
         "list a.img --tree --json",
         "--json and --tree are there, wanted one of them at most",
+    ),
+    ("export a.img b.img @1", ""),
+    (
+        "export a.img b.img @4294967296",
+        "VOLUME is '@4294967296', wanted @ and a head below 4294967296, or a name of 1 to 63 bytes, the first neither \
+         @ nor #",
     ),
     ("generate -1 10", ""),
     (

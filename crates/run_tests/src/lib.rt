@@ -1,7 +1,7 @@
 //! Tests of the program's calls over a device in memory: the verbs on attributes, new volumes, volumes that are thick
 //! or get another number of slots, volumes that are renamed or told, pages that are read and written, clones,
 //! snapshots, deletes, volumes that are inflated or decoupled, many volumes, channels that take turns, new stores,
-//! listings, generated scripts, printed or run, what a run leaves of the super block and the masks, and each status.
+//! listings, exports, generated scripts, printed or run, what a run leaves of the super block and the masks, and each status.
 #![tactic(auto)]
 
 #[cfg(test)]
@@ -12,6 +12,8 @@ mod deletes;
 mod device_pages;
 #[cfg(test)]
 mod exercises;
+#[cfg(test)]
+mod exports;
 #[cfg(test)]
 mod failures;
 #[cfg(test)]

@@ -43,8 +43,8 @@ pub enum Value {
     Text(Blobtext),
 }
 
-/// The volume that a word names.
-fn volume(word: &[u8]) -> Option<VolumeRef>
+/// The volume that a word names: `@` and a head below 2^32, or a name. `None` where it is neither.
+pub fn read_volume(word: &[u8]) -> Option<VolumeRef>
     ensures { result ≡ volume_in word.now }
 {
     match word {
@@ -69,7 +69,7 @@ impl Form {
         ensures { IfOk result (λ value. value ≡ says_word self word.now) }
     {
         Ok(match self {
-            Form::Volume => volume(word).map(Value::Volume),
+            Form::Volume => read_volume(word).map(Value::Volume),
             Form::Name => name(word).map(Value::Name),
             Form::Number => number(word).map(Value::Number),
             Form::Count => count(word).map(Value::Number),

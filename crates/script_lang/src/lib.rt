@@ -17,6 +17,7 @@ mod verb;
 mod words;
 
 pub use fault::{LineKind, ScriptFault};
+pub use form::read_volume;
 pub use generator::{Generator, generate, generate_line, generate_text};
 pub use parsing::parse;
 pub use reading::parse_schedule;

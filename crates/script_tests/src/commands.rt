@@ -5,7 +5,7 @@ use command_words::{read_words, refusal};
 use std::test::Fail;
 
 /// Words behind the program's name, and the command that they spell.
-const CASES: [(&str, &str); 21] = [
+const CASES: [(&str, &str); 22] = [
     (
         "run store.img",
         "Run { image: \"store.img\", schedule: None, threads: false }",
@@ -92,6 +92,10 @@ const CASES: [(&str, &str); 21] = [
         "list --tree store.img --json",
         "List { image: \"store.img\", json: true, tree: true }",
     ),
+    (
+        "export store.img disk.raw v",
+        "Export { image: \"store.img\", target: \"disk.raw\", volume: \"v\" }",
+    ),
     ("generate 1 3", "Generate { number: \"1\", size: \"3\" }"),
     (
         "exercise store.img 1 3",
@@ -100,7 +104,7 @@ const CASES: [(&str, &str); 21] = [
 ];
 
 /// Words that spell no command.
-const NO_COMMANDS: [&str; 35] = [
+const NO_COMMANDS: [&str; 38] = [
     "",
     "help",
     "help run",
@@ -131,6 +135,9 @@ const NO_COMMANDS: [&str; 35] = [
     "run store.img --json",
     "list store.img --tree --tree",
     "run store.img --tree",
+    "export",
+    "export store.img disk.raw",
+    "export store.img disk.raw v w",
     "generate",
     "generate 1",
     "generate 1 -3",

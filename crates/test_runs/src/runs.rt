@@ -1,6 +1,6 @@
 //! Calls of the program, as an administrator makes them.
 
-use blob_tool::{Gate, OpenGate, Status, blobtool, blobtool_gated};
+use blob_tool::{Gate, OpenGate, Status, blobtool, blobtool_gated, blobtool_two};
 use page_disk::PageDisk;
 use std::alloc::Global;
 use std::sync::Wait;
@@ -100,6 +100,30 @@ pub fn perform_on_threads<R: Threads + Wait + Sync, D: PageDisk + Drop + Send>(
     disk: D,
 ) -> Result<Ran<D>, Fail> {
     perform_gated(rt, alloc, call, disk, &OpenGate)
+}
+
+/// What comes of a call over a device and a target: how it ended, where it printed, and the two.
+pub fn perform_export<
+    R: Threads + Wait + Sync,
+    D: PageDisk + Drop + Send,
+    E: PageDisk + Drop + Send,
+>(rt: &R, alloc: Global, call: &Call<'_>, disk: D, target: E) -> Result<(Ran<D>, E), Fail> {
+    let words = words_of(alloc, call.line)?;
+    let (mut source, mut out) = (source_of(alloc, call)?, sink_of(alloc, call)?);
+    let (status, disk, target) = blobtool_two(
+        rt,
+        alloc,
+        &words,
+        &mut source,
+        &mut out,
+        disk,
+        Some(target),
+        &OpenGate,
+    );
+    match target {
+        Some(target) => Ok((Ran { status, out, disk }, target)),
+        None => Err(Fail::new("the target is gone")),
+    }
 }
 
 /// What comes of `run IMAGE` with a script, where no read and no write fails.

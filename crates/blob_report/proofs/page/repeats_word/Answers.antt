@@ -1,4 +1,4 @@
-use Rattle.std.proofs.Common.{◌≡◌, ◌∙◌, ◌<◌, ap, sym, get_or, ℕ, rules, drop, take}
+use Rattle.std.proofs.Common.{◌∙◌, ◌<◌, get_or, ℕ, rules}
 use mathlib.Core.Path.{ap₂}
 use Rattle.std.specs.Str.{bytes_eq}
 use Rattle.blob_report.proofs.RepeatedWords.{repeats_word}

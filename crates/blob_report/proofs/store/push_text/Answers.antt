@@ -1,4 +1,4 @@
-use Rattle.std.proofs.Common.{◌≡◌, ◌++◌, ℕ, ◌+◌, ◌≤◌, List, None, ap, ◌∙◌, arith}
+use Rattle.std.proofs.Common.{◌≡◌, ◌++◌, ℕ, ◌+◌, List, None, arith}
 use Rattle.std.specs.FinMap as map
 use Rattle.std.specs.List.{flat_map, range_with_len}
 use Rattle.super_block.specs.declared.page.Super.{Super}

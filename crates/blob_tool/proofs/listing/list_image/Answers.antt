@@ -1,26 +1,14 @@
-use Rattle.std.proofs.Common.{◌≡◌, ◌∙◌, ◌++◌, ℕ, List, ap, refl, rules, subst, sym}
+use Rattle.std.proofs.Common.{◌≡◌, ◌∙◌, ◌++◌, ℕ, List, ap, refl, rules, subst}
 use Rattle.page_disk.specs.Disk.{Rose}
 use Rattle.listing_text.specs.Formats.{listing_text}
 use Rattle.streams.specs.Printing.{IsPartOf}
-use Rattle.blob_tool.specs.ListOutcome.{ListEnded}
-use Rattle.blob_tool.specs.declared.status.Status.{Status}
-use Rattle.blob_tool.proofs.FoundStore.{found_by}
 use Rattle.blob_tool.proofs.ListingEnds.{unlisted}
 use Rattle.blob_tool.proofs.listing.list_image.Goals as goal
 
 pub returns-in-Err : goal.returns-in-Err
 returns-in-Err g c =
-    let d = g.D.PageDisk in
-    subst (λ (st : Status). ListEnded d c.args.disk c.in-Err.disk g.K.Sink c.args.out.now c.args.out.now c.args.format st)
-    (sym c.from.ensures)
-    (unlisted c.args.format d g.K.Sink c.args.out.now c.args.out.now c.args.disk c.in-Err.disk c.in-Err.fault
-    (record { quiet = refl; device = c.in-Err.ensures.same }) c.in-Err.ensures.counted
-    (λ of_image no_fault. record {
-      of_image = of_image;
-      first = c.in-Err.ensures.cause;
-      refused = λ t. c.in-Err.ensures.refused t of_image;
-      no_fault = no_fault;
-    }))
+    unlisted c.args.format g.D.PageDisk g.K.Sink c.args.out.now c.args.out.now c.args.disk c.in-Err.unloaded.1
+    c.in-Err.unloaded.0 (record { quiet = refl; device = c.in-Err.ensures.reads }) c.in-Err.ensures.unloaded
 
 pub returns-in-Ok-offer : goal.returns-in-Ok-offer
 returns-in-Ok-offer g c =
@@ -28,9 +16,7 @@ returns-in-Ok-offer g c =
     record {
       listed = record {
         loaded = c.in-Ok.loaded;
-        found = found_by g.D.PageDisk c.args.disk c.in-Ok.loaded c.in-Ok.ensures.same c.in-Ok.ensures.super_block
-            c.in-Ok.ensures.found c.in-Ok.ensures.quick c.in-Ok.ensures.accepted c.in-Ok.ensures.says
-            c.in-Ok.ensures.recovered c.in-Ok.ensures.no_fault;
+        found = c.in-Ok.ensures.found;
         device = c.disk_of-disk.ensures;
       };
       printed = λ t.
@@ -44,9 +30,7 @@ returns g c =
     record {
       listed = record {
         loaded = c.in-Ok.loaded;
-        found = found_by g.D.PageDisk c.args.disk c.in-Ok.loaded c.in-Ok.ensures.same c.in-Ok.ensures.super_block
-            c.in-Ok.ensures.found c.in-Ok.ensures.quick c.in-Ok.ensures.accepted c.in-Ok.ensures.says
-            c.in-Ok.ensures.recovered c.in-Ok.ensures.no_fault;
+        found = c.in-Ok.ensures.found;
         device = c.disk_of-disk.ensures;
       };
       part = λ t.

@@ -5,8 +5,10 @@ use Rattle.command_words.proofs.command_line.with_stores.Goals as goal
 
 pub returns : goal.returns
 returns c =
-    IfOk-weaker c.subcommand-3.result _ _
-    (λ r added. added.shape c.in_ok-list_line.ensures.local
+    IfOk-weaker c.subcommand-4.result _ _
+    (λ r added. added.shape c.in_ok-export_line.ensures.local
+    ∙ ap₂ with_subcommand
+    (c.in_ok-subcommand-3.ensures.shape c.in_ok-list_line.ensures.local
     ∙ ap₂ with_subcommand
     (c.in_ok-subcommand-2.ensures.shape c.in_ok-format_line.ensures.local
     ∙ ap₂ with_subcommand
@@ -14,4 +16,5 @@ returns c =
     ∙ ap₂ with_subcommand c.in_ok-without_commands.ensures c.in_ok-run_line.ensures.shape)
     c.in_ok-format_line.ensures.shape)
     c.in_ok-list_line.ensures.shape)
-    c.subcommand-3.ensures
+    c.in_ok-export_line.ensures.shape)
+    c.subcommand-4.ensures

@@ -1,0 +1,3 @@
+mod VolumesShown
+mod PagesRead
+mod CopySteps
