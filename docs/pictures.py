@@ -17,7 +17,7 @@ CRATES = {
     "blobtool": (1, 6, 0), "host_io": (4, 6, 1), "blob_tool": (1, 6, 2), "command_words": (1, 1, 7),
     "worker_threads": (5, 5, 3), "channels": (4, 5, 4),
     "script_lang": (1, 1, 5), "md_thread": (3, 4, 5), "streams": (6, 6, 5),
-    "lvol_store": (3, 3, 6), "thin_write": (5, 5, 6), "store_format": (1, 1, 6), "whole_copy": (2, 2, 6),
+    "lvol_store": (3, 3, 6), "thin_write": (5, 5, 6), "store_format": (1, 1, 6), "whole_copy": (3, 3, 7),
     "unclean_load": (2, 2, 7), "data_path": (5, 5, 7), "blob_report": (6, 6, 7),
     "store_core": (4, 4, 8), "run_moves": (6, 6, 8),
     "metadata_turns": (3, 3, 9), "job_begins": (4, 4, 9), "insert_runs": (6, 6, 9),
