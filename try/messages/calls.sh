@@ -23,6 +23,7 @@ says 6 "blobtool: list nothing: opening it failed: No such file or directory (os
 says 6 'blobtool: list no\x0athing: opening it failed: No such file or directory (os error 2)' list $'no\nthing'
 says 6 "blobtool: run i/i: opening it failed: Not a directory (os error 20)" run i/i
 says 6 "blobtool: run nothing: opening it failed: No such file or directory (os error 2)" run nothing more
+says 6 "blobtool: export nothing: opening it failed: No such file or directory (os error 2)" export i nothing v
 fails "fsync 1 5"
 says 6 "blobtool: format i: opening it failed: Input/output error (os error 5)" format i
 
@@ -44,6 +45,7 @@ by flock --shared i
 says 6 "blobtool: format i: $used" format i
 by flock --shared i
 says 0 "" list i
+says 6 "blobtool: export i: $used" export i i v
 
 row "it has a store already, wanted none with --new"
 says 6 "blobtool: format i: it has a store already, wanted none with --new" format i --new
@@ -78,3 +80,14 @@ script '0 df\n'
 says 7 "blobtool: run i: memory ran out" run i
 fails "memory 150 12"
 says 7 "blobtool: generate: memory ran out" generate 1 9
+
+row "writing page N of the target failed: ERROR; flushing the target failed: ERROR"
+cp empty i
+script '0 create v 1 thin\n'
+says 0 "" run i
+truncate -s 16384 t
+fails "pwrite 1 28"
+says 6 "blobtool: export t: writing page 0 of the target failed: No space left on device (os error 28)" export i t v
+fails "fsync 2 5"
+says 6 "blobtool: export t: flushing the target failed: Input/output error (os error 5)" export i t v
+says 0 "" export i t v

@@ -15,6 +15,10 @@ says 1 "blobtool: format i: --lvol is '@a', $name_form" format i --lvol @a --uui
 says 1 "blobtool: format i: --lvol is 'a\x0a', $name_form" format i --lvol $'a\n' --uuid $uuid
 uuid_form="wanted 32 hexadecimal digits, with or without hyphens"
 says 1 "blobtool: format i: --uuid is '5f2b4e66', $uuid_form" format i --lvol a --uuid 5f2b4e66
+volume_form="wanted @ and a head below 4294967296, or a name of 1 to 63 bytes, the first neither @ nor #"
+truncate -s 4096 t
+says 1 "blobtool: export i: VOLUME is '@', $volume_form" export i t @
+says 1 "blobtool: export i: VOLUME is '#a', $volume_form" export i t '#a'
 says 1 "blobtool: generate: NUMBER is '2147483648', wanted a number from 0 to 2147483647" generate 2147483648 10
 says 1 "blobtool: generate: SIZE is 'x', wanted a number from 0 to 65000" generate 1 x
 says 1 "blobtool: exercise i: SIZE is '65001', wanted a number from 0 to 65000" exercise i 1 65001
