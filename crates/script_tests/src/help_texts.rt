@@ -13,6 +13,7 @@ Commands:
   run       Runs the script on standard input on a store, and prints an answer for each command
   format    Writes an empty store, and prints how much space it has
   list      Prints a store and its volumes, and writes nothing
+  export    Writes what a volume shows to a file or a block device, and how many pages that is
   generate  Prints a script to try a store with, always the same for the same two numbers
   exercise  Runs a script of generate on a store, and prints one line that sums up its answers
   help      Print this message or the help of the given subcommand(s)
@@ -120,6 +121,25 @@ Options:
 Example: blobtool exercise store.img 1 100
 ";
 
+const EXPORT: &str =
+    "Writes what a volume shows to a file or a block device, and how many pages that is
+
+Usage: blobtool export <IMAGE> <TARGET> <VOLUME>
+
+Arguments:
+  <IMAGE>   The file that has the store
+  <TARGET>  The file that gets the pages; it has to be there, and as long as the volume
+  <VOLUME>  The volume: its name, or @ and its head
+
+Options:
+  -h, --help  Print help
+
+Example: blobtool export store.img disk.raw v
+
+Warning: what the target has below the volume's length is lost. Nothing is written
+to the image.
+";
+
 const VERSION: &str = "blobtool 0.1.0 (SPDK Blobstore, format version 3)
 ";
 
@@ -141,7 +161,7 @@ For more information, try '--help'.
 ";
 
 /// Words behind the program's name, and all that is said of them.
-const CASES: [(&str, &str); 13] = [
+const CASES: [(&str, &str); 14] = [
     ("", HELP),
     ("--help", HELP),
     ("-h", HELP),
@@ -150,6 +170,7 @@ const CASES: [(&str, &str); 13] = [
     ("help run", RUN),
     ("format store.img --help", FORMAT),
     ("list -h", LIST),
+    ("export -h", EXPORT),
     ("generate --help", GENERATE),
     ("exercise -h", EXERCISE),
     ("--version", VERSION),
